@@ -1,0 +1,12 @@
+//! What the journal and the index log hold: entries and outcomes, the fields of a message, and their bytes.
+//!
+//! A contract sees a `FieldMap` as the list of its fields in rising order of their names' bytes. The
+//! encoders give exactly the bytes that `specs/Entries` and `specs/Outcomes` define, and within the
+//! bounds of `specs/Bounds` no two entries and no two outcomes have the same bytes.
+#![tactic(auto)]
+
+mod entry;
+mod field;
+
+pub use entry::{Cause, Entry, Message, Outcome};
+pub use field::{Field, FieldMap, FieldRefusal, Value};
