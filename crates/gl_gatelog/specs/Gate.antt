@@ -1,5 +1,6 @@
 -- What a crash may leave of a gate, while bytes are staged behind it and it is opened.
 use Rattle.std.specs.Prelude.{◌≡◌, ◌≢◌, ◌⊎◌, ℕ, ◌≤◌, ◌<◌, List, ◌∷◌, length, take, drop, slice_index, Bool, true, false}
+use Rattle.gl_outside.specs.Disk.{Image, DiskState}
 
 -- a gate stands at this place, and it isn't open
 pub record IsShut (at : ℕ) (area : List ℕ) : Type 0 where
@@ -39,3 +40,10 @@ Waits false at area = (at ≡ 0) × (length area ≤ 1)
 pub record StillWaits (gated : Bool) (at : ℕ) (old new : List ℕ) : Type 0 where
   pub before : take at new ≡ take at old
   pub waits : Waits gated at new
+
+-- in each image that the disk may leave, the gate is shut; or the place waits for a batch
+abbrev pub AllShut : ℕ → ℕ → DiskState → Type 0
+AllShut area at disk = (c : Image) → disk.may_leave c → IsShut at (c area)
+
+abbrev pub AllWait : Bool → ℕ → ℕ → DiskState → Type 0
+AllWait gated area at disk = (c : Image) → disk.may_leave c → Waits gated at (c area)

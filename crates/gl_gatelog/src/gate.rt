@@ -3,19 +3,22 @@ ghost use Rattle.std.specs.Prelude.{◌≡◌, false, true, Bool, IsTrue, ◌+�
 ghost use Rattle.gl_outside.specs.declared.fault.Outside.TheVariants.{Failed, OutOfMemory};
 ghost use Rattle.gl_base.specs.Counts.{HasCause};
 ghost use Rattle.gl_outside.specs.Disk.{Image, DiskState, Tells, IsUnchanged, Follows, InArea, After, LeavesOnly};
-ghost use Rattle.gl_gatelog.specs.Gate.{IsShut, StaysShut, IsOpened, ShutOrOpened, IsClosed, ClosedOrOpened, Waits, StillWaits};
+ghost use Rattle.gl_gatelog.specs.Gate.{AllShut, AllWait, IsOpened, ShutOrOpened, ClosedOrOpened, StillWaits};
 
 use gl_outside::{Disk, Outside};
 
 /// Stages bytes behind a shut gate, and opens it once they are on the disk.
 fn open_gate<D: Disk>(disk: &mut D, area: u32, at: u64, bytes: &[u8]) -> Result<(), Outside>
-    requires shut { Tells (D.state disk.old) → (c : Image) → (D.state disk.old).may_leave c → IsShut at (c area) }
+    requires within { Tells (D.state disk.old) → at < length ((D.state disk.old).reads area) }
     requires fits { at + length bytes.now < 2 ^ 64 }
     requires some { 0 < length bytes.now }
-    ensures opened { Tells (D.state disk.old) → OnOk result (Follows (InArea area (IsOpened at bytes.now)) (D.state disk.old) (D.state disk.new)) }
+    // Where the gate is shut in each image.
+    ensures opened { Tells (D.state disk.old) → AllShut area at (D.state disk.old) → OnOk result (Follows (InArea area (IsOpened at bytes.now)) (D.state disk.old) (D.state disk.new)) }
     // A crash at any moment leaves the gate shut, or open with all the bytes behind it.
-    ensures any_moment { Tells (D.state disk.old) → LeavesOnly (D.state disk.old) (D.state disk.new) (After (D.state disk.old) (InArea area (ShutOrOpened at bytes.now))) }
+    ensures any_moment { Tells (D.state disk.old) → AllShut area at (D.state disk.old) → LeavesOnly (D.state disk.old) (D.state disk.new) (After (D.state disk.old) (InArea area (ShutOrOpened at bytes.now))) }
     ensures memory { Tells (D.state disk.old) → IsErrOf result Outside.OutOfMemory → IsUnchanged (D.state disk.old) (D.state disk.new) }
+    ensures reaches { Tells (D.state disk.old) → OnOk result (at + 1 + length bytes.now ≤ length ((D.state disk.new).reads area)) }
+    ensures no_shorter { Tells (D.state disk.old) → length ((D.state disk.old).reads area) ≤ length ((D.state disk.new).reads area) }
     ensures counted { Tells (D.state disk.old) → OnOk result ((D.state disk.new).calls ≡ (D.state disk.old).calls + 4) }
     ensures tells { (D.state disk.new).tells ≡ (D.state disk.old).tells }
     ensures cause { HasCause Failed (D.faults disk.old) (D.faults disk.new) result }
@@ -30,10 +33,11 @@ fn open_gate<D: Disk>(disk: &mut D, area: u32, at: u64, bytes: &[u8]) -> Result<
 
 /// Puts a shut gate into an area that has none, or that is a lone gate.
 fn shut_gate<D: Disk>(disk: &mut D, area: u32) -> Result<(), Outside>
-    requires none { Tells (D.state disk.old) → (c : Image) → (D.state disk.old).may_leave c → length (c area) ≤ 1 }
-    ensures shut { Tells (D.state disk.old) → OnOk result ((c : Image) → (D.state disk.new).may_leave c → IsShut 0 (c area)) }
-    ensures still { Tells (D.state disk.old) → Follows (InArea area (StillWaits false 0)) (D.state disk.old) (D.state disk.new) }
-    ensures any_moment { Tells (D.state disk.old) → LeavesOnly (D.state disk.old) (D.state disk.new) (After (D.state disk.old) (InArea area (StillWaits false 0))) }
+    // Where the area has no gate, or is a lone one, in each image.
+    ensures shut { Tells (D.state disk.old) → OnOk result (AllShut area 0 (D.state disk.new)) }
+    ensures still { Tells (D.state disk.old) → AllWait false area 0 (D.state disk.old) → Follows (InArea area (StillWaits false 0)) (D.state disk.old) (D.state disk.new) }
+    ensures any_moment { Tells (D.state disk.old) → AllWait false area 0 (D.state disk.old) → LeavesOnly (D.state disk.old) (D.state disk.new) (After (D.state disk.old) (InArea area (StillWaits false 0))) }
+    ensures there { Tells (D.state disk.old) → OnOk result (0 < length ((D.state disk.new).reads area)) }
     ensures counted { Tells (D.state disk.old) → OnOk result ((D.state disk.new).calls ≡ (D.state disk.old).calls + 2) }
     ensures tells { (D.state disk.new).tells ≡ (D.state disk.old).tells }
     ensures cause { HasCause Failed (D.faults disk.old) (D.faults disk.new) result }
@@ -51,13 +55,17 @@ pub fn write_batch<D: Disk>(
     gated: bool,
     bytes: &[u8],
 ) -> Result<(), Outside>
-    requires waits { Tells (D.state disk.old) → (c : Image) → (D.state disk.old).may_leave c → Waits gated at (c area) }
+    requires within { Tells (D.state disk.old) → gated ≡ true → at < length ((D.state disk.old).reads area) }
     requires ungated { gated ≡ false → at ≡ 0 }
     requires fits { at + length bytes.now < 2 ^ 64 }
     requires some { 0 < length bytes.now }
-    ensures opened { Tells (D.state disk.old) → OnOk result (Follows (InArea area (IsOpened at bytes.now)) (D.state disk.old) (D.state disk.new)) }
-    ensures any_moment { Tells (D.state disk.old) → LeavesOnly (D.state disk.old) (D.state disk.new) (After (D.state disk.old) (InArea area (ClosedOrOpened at bytes.now))) }
-    ensures memory { Tells (D.state disk.old) → IsErrOf result Outside.OutOfMemory → Follows (InArea area (StillWaits gated at)) (D.state disk.old) (D.state disk.new) }
+    // Where the place waits for a batch in each image.
+    ensures opened { Tells (D.state disk.old) → AllWait gated area at (D.state disk.old) → OnOk result (Follows (InArea area (IsOpened at bytes.now)) (D.state disk.old) (D.state disk.new)) }
+    ensures any_moment { Tells (D.state disk.old) → AllWait gated area at (D.state disk.old) → LeavesOnly (D.state disk.old) (D.state disk.new) (After (D.state disk.old) (InArea area (ClosedOrOpened at bytes.now))) }
+    ensures memory { Tells (D.state disk.old) → AllWait gated area at (D.state disk.old) → IsErrOf result Outside.OutOfMemory → Follows (InArea area (StillWaits gated at)) (D.state disk.old) (D.state disk.new) }
+    ensures reaches { Tells (D.state disk.old) → OnOk result (at + 1 + length bytes.now ≤ length ((D.state disk.new).reads area)) }
+    // Where it wants memory the gate is still there.
+    ensures stays { Tells (D.state disk.old) → gated ≡ true → at < length ((D.state disk.new).reads area) }
     ensures counted { Tells (D.state disk.old) → OnOk result ((D.state disk.new).calls ≡ (D.state disk.old).calls + (if gated then 4 else 6)) }
     ensures tells { (D.state disk.new).tells ≡ (D.state disk.old).tells }
     ensures cause { HasCause Failed (D.faults disk.old) (D.faults disk.new) result }
