@@ -1,4 +1,5 @@
-ghost use Rattle.std.specs.Prelude.{◌≡◌, [], ◌∷◌, ◌++◌, length, IfOk, OnOk, OnErr};
+ghost use Rattle.std.specs.Prelude.{◌≡◌, ◌==◌, ◌↔◌, ◌<◌, [], ◌∷◌, ◌++◌, length, slice_index_or, IsTrue, IfOk, OnOk, OnErr};
+ghost use Rattle.std.specs.List.{remove};
 
 use std::alloc::{AllocError, Global};
 use std::marker::Model;
@@ -46,6 +47,30 @@ impl<T> Items<T> {
     {
         self.items.len()
     }
+
+    pub fn is_empty(&self) -> bool
+        ensures { result ≡ (length self.now == 0) }
+    {
+        self.items.is_empty()
+    }
+
+    /// An empty list with room for this many items.
+    pub fn with_capacity(alloc: Global, capacity: usize) -> Result<Items<T>, AllocError>
+        ensures { IfOk result (λ it. it ≡ []) }
+    {
+        Ok(Items {
+            items: Vec::with_capacity(alloc, capacity)?,
+        })
+    }
+
+    /// Takes the item at this index out; those behind it move up.
+    pub fn remove(&mut self, index: usize) -> T
+        requires { index < length self.old }
+        ensures value { result ≡ slice_index_or self.old index result }
+        ensures items { self.new ≡ remove self.old index }
+    {
+        self.items.remove(index)
+    }
 }
 
 impl<T: Drop> Items<T> {
@@ -65,5 +90,22 @@ impl<T: Copy> Items<T> {
         Ok(Items {
             items: Vec::from_slice(alloc, items)?,
         })
+    }
+
+    pub fn copy(&self) -> Result<Items<T>, AllocError>
+        ensures { IfOk result (λ it. it ≡ self.now) }
+    {
+        Ok(Items {
+            items: Vec::from_slice(*self.items.allocator(), self.items.as_slice())?,
+        })
+    }
+}
+
+impl Items<u8> {
+    /// Whether both have the same bytes.
+    pub fn same(&self, other: &Items<u8>) -> bool
+        ensures { IsTrue result ↔ (self.now ≡ other.now) }
+    {
+        self.items.as_slice() == other.items.as_slice()
     }
 }

@@ -2,3 +2,4 @@ pub mod Bounds
 pub mod Entries
 pub mod Fields
 pub mod Outcomes
+pub mod Places

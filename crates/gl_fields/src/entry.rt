@@ -1,5 +1,8 @@
+ghost use Rattle.std.specs.Prelude.{◌≡◌, ◌↔◌, IsTrue, IfOk};
+
 use crate::FieldMap;
 use gl_base::{Items, Text};
+use std::alloc::AllocError;
 
 /// A payload as it came in.
 #[derive(Debug, Drop)]
@@ -16,6 +19,53 @@ pub struct Message {
 pub enum Entry {
     Admin(Items<u8>),
     Message(Message),
+}
+
+impl Message {
+    pub fn copy(&self) -> Result<Message, AllocError>
+        ensures { IfOk result (λ m. m ≡ self.now) }
+    {
+        Ok(Message {
+            input: self.input.copy()?,
+            peer: self.peer.copy()?,
+            moment: self.moment,
+            version: self.version,
+            bytes: self.bytes.copy()?,
+        })
+    }
+
+    /// Whether both are equal.
+    pub fn same(&self, other: &Message) -> bool
+        ensures { IsTrue result ↔ (self.now ≡ other.now) }
+    {
+        self.moment == other.moment
+            && self.version == other.version
+            && self.input.same(&other.input)
+            && self.peer.same(&other.peer)
+            && self.bytes.same(&other.bytes)
+    }
+}
+
+impl Entry {
+    pub fn copy(&self) -> Result<Entry, AllocError>
+        ensures { IfOk result (λ e. e ≡ self.now) }
+    {
+        match self {
+            Entry::Admin(command) => Ok(Entry::Admin(command.copy()?)),
+            Entry::Message(message) => Ok(Entry::Message(message.copy()?)),
+        }
+    }
+
+    /// Whether both are equal.
+    pub fn same(&self, other: &Entry) -> bool
+        ensures { IsTrue result ↔ (self.now ≡ other.now) }
+    {
+        match (self, other) {
+            (Entry::Admin(command), Entry::Admin(other)) => command.same(other),
+            (Entry::Message(message), Entry::Message(other)) => message.same(other),
+            _ => false,
+        }
+    }
 }
 
 /// Why a payload can't be decoded.

@@ -1,7 +1,11 @@
-ghost use Rattle.std.specs.Prelude.{◌≡◌, []};
+ghost use Rattle.std.specs.Prelude.{◌≡◌, ◌==◌, [], length, IfOk, OnOk, OnErr, IfErr, MatchOption, option_copied};
+ghost use Rattle.gl_fields.specs.declared.field.FieldRefusal.TheVariants.{OutOfMemory};
+ghost use Rattle.gl_fields.specs.Fields.{value_of, value_text, with_field, refusal_of, is_text, IsValue};
 
+use crate::place::{position_of, put, refusal};
+use crate::size::signed_decimal_len;
 use gl_base::Text;
-use std::alloc::Global;
+use std::alloc::{AllocError, Global};
 use std::marker::Model;
 
 /// What a field holds.
@@ -47,6 +51,56 @@ impl Model for FieldMap {
     ghost invariant = { λ m. IsFieldMap m.fields.items };
 }
 
+impl From<AllocError> for FieldRefusal {
+    ghost from_gives = { λ _ e. e ≡ OutOfMemory };
+
+    fn from(_: AllocError) -> Self {
+        FieldRefusal::OutOfMemory
+    }
+}
+
+impl Value {
+    pub fn is_text(&self) -> bool
+        ensures { result ≡ is_text self.now }
+    {
+        match self {
+            Value::Text(_) => true,
+            Value::Whole(_) => false,
+        }
+    }
+
+    /// How many bytes its text has: a whole number's is its decimal, with `-` where negative.
+    pub fn text_len(&self) -> usize
+        ensures len { result ≡ length (value_text self.now) }
+        ensures lawful { IsValue self.now }
+    {
+        match self {
+            Value::Text(text) => text.as_str().len(),
+            Value::Whole(number) => signed_decimal_len(*number),
+        }
+    }
+
+    pub fn copy(&self) -> Result<Value, AllocError>
+        ensures { IfOk result (λ v. v ≡ self.now) }
+    {
+        match self {
+            Value::Text(text) => Ok(Value::Text(text.copy()?)),
+            Value::Whole(number) => Ok(Value::Whole(*number)),
+        }
+    }
+}
+
+impl Field {
+    pub fn copy(&self) -> Result<Field, AllocError>
+        ensures { IfOk result (λ f. f ≡ self.now) }
+    {
+        Ok(Field {
+            name: self.name.copy()?,
+            value: self.value.copy()?,
+        })
+    }
+}
+
 impl FieldMap {
     pub fn new(alloc: Global) -> FieldMap
         ensures { result ≡ [] }
@@ -56,9 +110,70 @@ impl FieldMap {
         }
     }
 
+    /// An empty map with room for this many fields.
+    pub fn with_capacity(alloc: Global, capacity: usize) -> Result<FieldMap, AllocError>
+        ensures { IfOk result (λ m. m ≡ []) }
+    {
+        let fields = Vec::with_capacity(alloc, capacity)?;
+        Ok(FieldMap { fields })
+    }
+
+    pub fn len(&self) -> usize
+        ensures { result ≡ length self.now }
+    {
+        self.fields.len()
+    }
+
+    pub fn is_empty(&self) -> bool
+        ensures { result ≡ (length self.now == 0) }
+    {
+        self.fields.is_empty()
+    }
+
     pub fn as_slice(&self) -> &[Field]
         ensures { result.now ≡ self.now }
     {
         self.fields.as_slice()
     }
+
+    /// What the field of this name holds.
+    pub fn get(&self, name: &str) -> Option<&Value>
+        ensures { option_copied result ≡ value_of name.now self.now }
+    {
+        match position_of(self.fields.as_slice(), name) {
+            Ok(at) => Some(&self.fields[at].value),
+            Err(_) => None,
+        }
+    }
+
+    /// Puts a field in, or in the place of the field of its name. A refusal changes nothing.
+    pub fn set(&mut self, name: &str, value: Value) -> Result<(), FieldRefusal>
+        ensures ok { OnOk result (self.new ≡ with_field (record { name = name.now; value = value }) self.old) }
+        ensures err { OnErr result (self.new ≡ self.old) }
+        ensures cause { MatchOption (refusal_of (record { name = name.now; value = value }) self.old) (IfErr result (λ e. e ≡ OutOfMemory)) (λ r. result ≡ Err r) }
+    {
+        let place = position_of(self.fields.as_slice(), name);
+        if let Some(cause) = refusal(self.fields.as_slice(), place, name, &value) {
+            return Err(cause);
+        }
+        put(&mut self.fields, place, name, value)?;
+        Ok(())
+    }
+
+    pub fn copy(&self) -> Result<FieldMap, AllocError>
+        ensures { IfOk result (λ m. m ≡ self.now) }
+    {
+        let fields = copy_fields(*self.fields.allocator(), self.fields.as_slice())?;
+        Ok(FieldMap { fields })
+    }
+}
+
+fn copy_fields(alloc: Global, fields: &[Field]) -> Result<Vec<Field>, AllocError>
+    ensures { IfOk result (λ v. v.items ≡ fields.now) }
+{
+    let mut copies = Vec::with_capacity(alloc, fields.len())?;
+    for field in fields {
+        copies.push(field.copy()?)?;
+    }
+    Ok(copies)
 }

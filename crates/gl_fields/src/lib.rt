@@ -5,8 +5,12 @@
 //! bounds of `specs/Bounds` no two entries and no two outcomes have the same bytes.
 #![tactic(auto)]
 
+mod encode;
 mod entry;
 mod field;
+mod place;
+mod size;
 
+pub use encode::{encode_entry, encode_outcome, law_bytes_read_back};
 pub use entry::{Cause, Entry, Message, Outcome};
 pub use field::{Field, FieldMap, FieldRefusal, Value};

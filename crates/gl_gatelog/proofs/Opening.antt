@@ -44,8 +44,10 @@ module _ (log : Log) (s : ℕ) (sized : IsSegmentSize s) (old new : Image) (othe
 
   pub waits_behind : Waits (same_segment log s (behind_batch (0, 0) (begin log s))) (next log s (0, 0) (begin log s)).1 (new (area_of log (next log s (0, 0) (begin log s)).0))
   waits_behind = elim (same_segment log s (behind_batch (0, 0) (begin log s))) as (λ (b : Bool). Waits b (if b then behind_batch (0, 0) (begin log s) else next_segment (0, 0)).1 (new (area_of log (if b then behind_batch (0, 0) (begin log s) else next_segment (0, 0)).0))) [
-    | true ↦ (record { there = fits 0 (begin log s) (old (area_of log 0)) (new (area_of log 0)) opens; shut = λ is_one. absurd (omega (arith, gate_behind 0 (begin log s) (old (area_of log 0)) (new (area_of log 0)) opens, is_one)) },
-        omega (arith, fits 0 (begin log s) (old (area_of log 0)) (new (area_of log 0)) opens))
+    | true ↦ (
+      record { there = fits 0 (begin log s) (old (area_of log 0)) (new (area_of log 0)) opens; shut = λ is_one. absurd (omega (arith, gate_behind 0 (begin log s) (old (area_of log 0)) (new (area_of log 0)) opens, is_one)) },
+      omega (arith, fits 0 (begin log s) (old (area_of log 0)) (new (area_of log 0)) opens),
+    )
     | false ↦ (refl, omega (arith, ap length (still_empty 1 (omega arith) (one_within log))))
   ]
 

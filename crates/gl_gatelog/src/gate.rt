@@ -1,5 +1,5 @@
 // A gate is a byte before a batch: 1 where it is open, another where it is shut. A batch counts where its gate is open.
-ghost use Rattle.std.specs.Prelude.{◌≡◌, false, true, Bool, IsTrue, ◌+◌, ◌^◌, ◌<◌, ◌≤◌, length, OnOk, IsErrOf, if◌then◌else◌};
+ghost use Rattle.std.specs.Prelude.{◌≡◌, ◌≢◌, ℕ, false, true, Bool, IsTrue, ◌+◌, ◌^◌, ◌<◌, ◌≤◌, length, OnOk, IsErrOf, if◌then◌else◌};
 ghost use Rattle.gl_outside.specs.declared.fault.Outside.TheVariants.{Failed, OutOfMemory};
 ghost use Rattle.gl_base.specs.Counts.{HasCause};
 ghost use Rattle.gl_outside.specs.Disk.{Image, DiskState, Tells, IsUnchanged, Follows, InArea, After, LeavesOnly};
@@ -20,6 +20,7 @@ fn open_gate<D: Disk>(disk: &mut D, area: u32, at: u64, bytes: &[u8]) -> Result<
     ensures reaches { Tells (D.state disk.old) → OnOk result (at + 1 + length bytes.now ≤ length ((D.state disk.new).reads area)) }
     ensures no_shorter { Tells (D.state disk.old) → length ((D.state disk.old).reads area) ≤ length ((D.state disk.new).reads area) }
     ensures counted { Tells (D.state disk.old) → OnOk result ((D.state disk.new).calls ≡ (D.state disk.old).calls + 4) }
+    ensures elsewhere { Tells (D.state disk.old) → (b : ℕ) → b ≢ area → (D.state disk.new).reads b ≡ (D.state disk.old).reads b }
     ensures tells { (D.state disk.new).tells ≡ (D.state disk.old).tells }
     ensures cause { HasCause Failed (D.faults disk.old) (D.faults disk.new) result }
 {
@@ -39,6 +40,7 @@ fn shut_gate<D: Disk>(disk: &mut D, area: u32) -> Result<(), Outside>
     ensures any_moment { Tells (D.state disk.old) → AllWait false area 0 (D.state disk.old) → LeavesOnly (D.state disk.old) (D.state disk.new) (After (D.state disk.old) (InArea area (StillWaits false 0))) }
     ensures there { Tells (D.state disk.old) → OnOk result (0 < length ((D.state disk.new).reads area)) }
     ensures counted { Tells (D.state disk.old) → OnOk result ((D.state disk.new).calls ≡ (D.state disk.old).calls + 2) }
+    ensures elsewhere { Tells (D.state disk.old) → (b : ℕ) → b ≢ area → (D.state disk.new).reads b ≡ (D.state disk.old).reads b }
     ensures tells { (D.state disk.new).tells ≡ (D.state disk.old).tells }
     ensures cause { HasCause Failed (D.faults disk.old) (D.faults disk.new) result }
 {
@@ -67,6 +69,7 @@ pub fn write_batch<D: Disk>(
     // Where it wants memory the gate is still there.
     ensures stays { Tells (D.state disk.old) → gated ≡ true → at < length ((D.state disk.new).reads area) }
     ensures counted { Tells (D.state disk.old) → OnOk result ((D.state disk.new).calls ≡ (D.state disk.old).calls + (if gated then 4 else 6)) }
+    ensures elsewhere { Tells (D.state disk.old) → (b : ℕ) → b ≢ area → (D.state disk.new).reads b ≡ (D.state disk.old).reads b }
     ensures tells { (D.state disk.new).tells ≡ (D.state disk.old).tells }
     ensures cause { HasCause Failed (D.faults disk.old) (D.faults disk.new) result }
 {

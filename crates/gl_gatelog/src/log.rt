@@ -1,5 +1,5 @@
 // A log of records in batches, over the areas of a disk.
-ghost use Rattle.std.specs.Prelude.{◌≡◌, ◌⊎◌, ℕ, ◌+◌, ◌*◌, if◌then◌else◌, replicate, Bool, ◌^◌, ◌<◌, ◌≤◌, List, [], ◌∷◌, ◌++◌, false, true, length, Some, None, IfOk, IfErr, OnOk, OnErr, IsErrOf, MatchOption, MatchResult, vec_capacity};
+ghost use Rattle.std.specs.Prelude.{◌≡◌, ◌≢◌, ◌⊎◌, ℕ, ◌+◌, ◌*◌, if◌then◌else◌, replicate, Bool, ◌^◌, ◌<◌, ◌≤◌, List, [], ◌∷◌, ◌++◌, false, true, length, Some, None, IfOk, IfErr, OnOk, OnErr, IsErrOf, MatchOption, MatchResult, vec_capacity};
 ghost use Rattle.gl_base.specs.Counts.{HasCause};
 ghost use Rattle.gl_outside.specs.Disk.{Image, DiskState, Tells, LeavesOnly};
 ghost use Rattle.gl_gatelog.specs.declared.kind.Log.{Log};
@@ -58,11 +58,14 @@ impl GateLog {
         requires least { 4096 ≤ segment }
         requires most { segment ≤ 2 ^ 30 }
         requires limit { 4096 ≤ limit }
+        ensures value { IfOk result (λ v. v ≡ begun log segment limit) }
         ensures opened { Tells (D.state disk.old) → IsEmptyBehind log (D.state disk.old) → IfOk result (λ v. (v ≡ begun log segment limit) × StandsOn v [] (D.state disk.new)) }
         ensures any_moment { Tells (D.state disk.old) → IsEmptyBehind log (D.state disk.old) → LeavesOnly (D.state disk.old) (D.state disk.new) (LeftByOpening log segment (D.state disk.old)) }
         ensures place { Tells (D.state disk.old) → IfOk result (λ v. HasPlace v (D.state disk.new)) }
         ensures cause { IfErr result (λ e. (e ≡ LogFault.DiskFault) ⊎ (e ≡ LogFault.OutOfMemory) ⊎ (e ≡ LogFault.Damaged (area_of log 0) 0)) }
         ensures damaged { Tells (D.state disk.old) → IsErrOf result (LogFault.Damaged (area_of log 0) 0) → 1 < length ((D.state disk.old).reads (area_of log 0)) }
+        // No other area is written.
+        ensures elsewhere { Tells (D.state disk.old) → (b : ℕ) → b ≢ area_of log 0 → (D.state disk.new).reads b ≡ (D.state disk.old).reads b }
         ensures sound { Tells (D.state disk.old) → OnOk result (length ((D.state disk.old).reads (area_of log 0)) ≤ 1) }
         ensures faults { HasCause LogFault.DiskFault (D.faults disk.old) (D.faults disk.new) result }
         ensures tells { (D.state disk.new).tells ≡ (D.state disk.old).tells }
@@ -125,6 +128,9 @@ impl GateLog {
             (λ e. (result ≡ Err e) × (disk.new ≡ disk.old)) }
         ensures faults { HasCause LogFault.DiskFault (D.faults disk.old) (D.faults disk.new) result }
         ensures tells { (D.state disk.new).tells ≡ (D.state disk.old).tells }
+        // No other area is written.
+        ensures elsewhere { Tells (D.state disk.old) → (b : ℕ) → b ≢ area_of self.old.log self.old.place.0 → (D.state disk.new).reads b ≡ (D.state disk.old).reads b }
+        // The next batch can be written too.
         ensures place { Tells (D.state disk.old) → HasPlace self.old (D.state disk.old) → self.new.stopped ≡ false → HasPlace self.new (D.state disk.new) }
 
         // From Ok on every image has the batch.

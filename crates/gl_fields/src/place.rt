@@ -1,0 +1,160 @@
+// The place of a field in a map, and what may not be put there.
+ghost use Rattle.std.specs.Prelude.{◌≡◌, ◌+◌, ◌<◌, ◌≤◌, ◌&&◌, nat_lt, length, slice_set, slice_index_or, codes, OnOk, OnErr};
+ghost use Rattle.std.specs.Str.{bytes_eq};
+ghost use Rattle.gl_fields.specs.declared.field.Field.{Field};
+ghost use Rattle.std.specs.List.{insert, list_all};
+ghost use Rattle.gl_fields.specs.Fields.{is_name_byte, is_field_name, is_text, refusal_of, field_size, counted_size, with_field, IsValue, IsFieldMap};
+ghost use Rattle.gl_fields.specs.Places.{IsPlaceOf};
+
+use crate::{Field, FieldRefusal, Value, size};
+use gl_base::Text;
+use std::alloc::AllocError;
+
+const MAX_FIELDS: usize = 256;
+
+const MAX_NAME: usize = 255;
+
+const MAX_SIZE: usize = 2_097_152;
+
+// How many free slots a full map grows by: few, since maps are kept in memory for long.
+const SPARE_SLOTS: usize = 4;
+
+/// The index of the field of this name, or else where it would stand.
+pub fn position_of(fields: &[Field], name: &str) -> Result<usize, usize>
+    requires { IsFieldMap fields.now }
+    ensures { IsPlaceOf name.now fields.now result }
+{
+    fields.binary_search_by(|field| field.name.as_str().cmp(&name))
+}
+
+fn is_name_byte(b: u8) -> bool
+    ensures { result ≡ is_name_byte b }
+{
+    matches!(b, b'a'..=b'z' | b'A'..=b'Z' | b'0'..=b'9' | b'_' | b'.' | b'-')
+}
+
+fn has_name_bytes(name: &[u8]) -> bool
+    ensures { result ≡ list_all is_name_byte name.now }
+{
+    name.iter().all(|b| is_name_byte(*b))
+}
+
+fn is_field_name(name: &str) -> bool
+    ensures { result ≡ is_field_name name.now }
+{
+    !name.is_empty() && name.len() <= MAX_NAME && has_name_bytes(name.as_bytes()) && name != "_id"
+}
+
+fn is_reserved(name: &str, value: &Value) -> bool
+    ensures { result ≡ (bytes_eq name.now (codes "timestamp") && is_text value.now) }
+{
+    name == "timestamp" && value.is_text()
+}
+
+/// Whether the map with a field at this place would have too many.
+fn is_too_many(fields: &[Field], place: Result<usize, usize>, name: &str) -> bool
+    requires { IsPlaceOf name.now fields.now place }
+    ensures { (field : Field) → field.name ≡ name.now → result ≡ nat_lt 256 (length (with_field field fields.now)) }
+{
+    match place {
+        Ok(_) => fields.len() > MAX_FIELDS,
+        Err(_) => fields.len() >= MAX_FIELDS,
+    }
+}
+
+/// How many bytes count of the fields beside the one at this place.
+fn size_beside(fields: &[Field], place: Result<usize, usize>, name: &str) -> usize
+    requires place { IsPlaceOf name.now fields.now place }
+    requires short { counted_size fields.now ≤ 2097152 }
+    ensures size { (field : Field) → field.name ≡ name.now → counted_size (with_field field fields.now) ≡ result + field_size field }
+    ensures short { result ≤ 2097152 }
+{
+    let all = size::counted_size(fields);
+    match place {
+        Ok(at) => all - size::field_size(&fields[at]),
+        Err(_) => all,
+    }
+}
+
+/// Whether the map with this field would count too many bytes.
+fn is_too_large(fields: &[Field], place: Result<usize, usize>, name: &str, value: &Value) -> bool
+    requires place { IsPlaceOf name.now fields.now place }
+    requires short { counted_size fields.now ≤ 2097152 }
+    requires name { length name.now < 256 }
+    ensures value { result ≡ nat_lt 2097152 (counted_size (with_field (record { name = name.now; value = value.now }) fields.now)) }
+    ensures lawful { IsValue value.now }
+{
+    let kept = size_beside(fields, place, name);
+    let text = value.text_len();
+    if text > MAX_SIZE {
+        return true;
+    }
+    kept + name.len() + text > MAX_SIZE
+}
+
+/// Why this field isn't put into the map, where its name has this place.
+pub fn refusal(
+    fields: &[Field],
+    place: Result<usize, usize>,
+    name: &str,
+    value: &Value,
+) -> Option<FieldRefusal>
+    requires place { IsPlaceOf name.now fields.now place }
+    requires short { counted_size fields.now ≤ 2097152 }
+    ensures cause { result ≡ refusal_of (record { name = name.now; value = value.now }) fields.now }
+    ensures lawful { result ≡ None → IsValue value.now }
+{
+    if !is_field_name(name) {
+        return Some(FieldRefusal::BadFieldName);
+    }
+    if is_reserved(name, value) {
+        return Some(FieldRefusal::Reserved);
+    }
+    if is_too_many(fields, place, name) {
+        return Some(FieldRefusal::TooManyFields);
+    }
+    if is_too_large(fields, place, name, value) {
+        return Some(FieldRefusal::TooLarge);
+    }
+    None
+}
+
+/// Puts a field in at the place of its name, or in the place of the field that is there.
+pub fn put(
+    fields: &mut Vec<Field>,
+    place: Result<usize, usize>,
+    name: &str,
+    value: Value,
+) -> Result<(), AllocError>
+    requires { IsPlaceOf name.now fields.old.items place }
+    ensures ok { OnOk result (fields.new.items ≡ with_field (record { name = name.now; value = value }) fields.old.items) }
+    ensures err { OnErr result (fields.new.items ≡ fields.old.items) }
+{
+    match place {
+        Ok(at) => {
+            replace_at(fields, at, value);
+            Ok(())
+        }
+        Err(at) => insert_at(fields, at, name, value),
+    }
+}
+
+fn replace_at(fields: &mut Vec<Field>, at: usize, value: Value)
+    requires { at < length fields.old.items }
+    ensures { (d : Field) → fields.new.items ≡ slice_set fields.old.items at (record { name = (slice_index_or fields.old.items at d).name; value = value }) }
+{
+    fields[at].value = value;
+}
+
+fn insert_at(fields: &mut Vec<Field>, at: usize, name: &str, value: Value) -> Result<(), AllocError>
+    requires { at ≤ length fields.old.items }
+    ensures ok { OnOk result (fields.new.items ≡ insert fields.old.items at (record { name = name.now; value = value })) }
+    ensures err { OnErr result (fields.new.items ≡ fields.old.items) }
+{
+    let name = Text::from_str(*fields.allocator(), name)?;
+    if fields.len() == fields.capacity() {
+        fields.reserve_exact(SPARE_SLOTS)?;
+    }
+    fields.insert(at, Field { name, value })?;
+    Ok(())
+}
