@@ -15,10 +15,10 @@ pub record StandsOn (view : GateView) (batches : List Batch) (disk : DiskState) 
   pub places : view.places ≡ places_from view.log view.segment_size (next view.log view.segment_size (0, 0) (begin view.log view.segment_size)) batches
   pub bytes : view.bytes ≡ bytes_of (begin view.log view.segment_size ∷ batches)
 
--- Where a gate stands at the place of the next batch, that place lies within what its area reads: all that a call needs to
--- be lawful on the disk, whatever else stands there.
-abbrev pub HasPlace : GateView → DiskState → Type 0
-HasPlace view disk = view.gated ≡ true → view.place.1 < length (disk.reads (area_of view.log view.place.0))
+-- A log may be written to: where a gate stands at the place of its next batch, that gate lies within what the disk reads.
+-- No call needs more of a disk to be lawful, whatever else stands there.
+abbrev pub IsReady : GateView → DiskState → Type 0
+IsReady view disk = view.gated ≡ true → view.place.1 < length (disk.reads (area_of view.log view.place.0))
 
 -- from an image of the disk as it was, the log as it was or with one batch more; no area but the one in which it ended has changed
 pub record HasLog (log : Log) (segment_size : ℕ) (batches : List Batch) (batch : Batch) (old new : Image) : Type 0 where

@@ -6,7 +6,7 @@ ghost use Rattle.gl_gatelog.specs.declared.kind.Log.{Log};
 ghost use Rattle.gl_gatelog.specs.declared.kind.LogFault.TheVariants.{DiskFault, OutOfMemory};
 ghost use Rattle.gl_gatelog.specs.Batch.{Batch, size, body};
 ghost use Rattle.gl_gatelog.specs.Log.{LogIs, area_of, next_by, same_segment, last_segment};
-ghost use Rattle.gl_gatelog.specs.Stand.{StandsOn, HasPlace, BeforeOrWith, IsEmptyBehind, LeftByOpening};
+ghost use Rattle.gl_gatelog.specs.Stand.{StandsOn, IsReady, BeforeOrWith, IsEmptyBehind, LeftByOpening};
 ghost use Rattle.gl_gatelog.specs.View.{GateView, batch_of, refusal, has_long, appended, refused, begun};
 
 use crate::batch::{body_len, encode, encode_begin};
@@ -61,7 +61,7 @@ impl GateLog {
         ensures value { IfOk result (λ v. v ≡ begun log segment limit) }
         ensures opened { Tells (D.state disk.old) → IsEmptyBehind log (D.state disk.old) → IfOk result (λ v. (v ≡ begun log segment limit) × StandsOn v [] (D.state disk.new)) }
         ensures any_moment { Tells (D.state disk.old) → IsEmptyBehind log (D.state disk.old) → LeavesOnly (D.state disk.old) (D.state disk.new) (LeftByOpening log segment (D.state disk.old)) }
-        ensures place { Tells (D.state disk.old) → IfOk result (λ v. HasPlace v (D.state disk.new)) }
+        ensures ready { Tells (D.state disk.old) → IfOk result (λ v. IsReady v (D.state disk.new)) }
         ensures cause { IfErr result (λ e. (e ≡ LogFault.DiskFault) ⊎ (e ≡ LogFault.OutOfMemory) ⊎ (e ≡ LogFault.Damaged (area_of log 0) 0)) }
         ensures damaged { Tells (D.state disk.old) → IsErrOf result (LogFault.Damaged (area_of log 0) 0) → 1 < length ((D.state disk.old).reads (area_of log 0)) }
         // No other area is written.
@@ -118,7 +118,7 @@ impl GateLog {
     pub fn append<D: Disk>(&mut self, disk: &mut D, records: &[Vec<u8>]) -> Result<u64, LogFault>
         requires some { 0 < length records.now }
         requires few { length records.now ≤ 256 }
-        requires place { Tells (D.state disk.old) → self.old.stopped ≡ false → HasPlace self.old (D.state disk.old) }
+        requires ready { Tells (D.state disk.old) → self.old.stopped ≡ false → IsReady self.old (D.state disk.old) }
 
         ensures value { MatchResult result
             (λ n. (n ≡ length self.old.places) × (self.new ≡ appended self.old (batch_of records.now)))
@@ -131,7 +131,7 @@ impl GateLog {
         // No other area is written.
         ensures elsewhere { Tells (D.state disk.old) → (b : ℕ) → b ≢ area_of self.old.log self.old.place.0 → (D.state disk.new).reads b ≡ (D.state disk.old).reads b }
         // The next batch can be written too.
-        ensures place { Tells (D.state disk.old) → HasPlace self.old (D.state disk.old) → self.new.stopped ≡ false → HasPlace self.new (D.state disk.new) }
+        ensures ready { Tells (D.state disk.old) → self.new.stopped ≡ false → IsReady self.new (D.state disk.new) }
 
         // From Ok on every image has the batch.
         ensures added { Tells (D.state disk.old) → OnOk result ((b : List Batch) → StandsOn self.old b (D.state disk.old) → StandsOn self.new (b ++ batch_of records.now ∷ []) (D.state disk.new)) }
