@@ -36,6 +36,13 @@ impl<T> Items<T> {
         Items { items }
     }
 
+    /// The items as a `Vec`.
+    pub fn into_vec(self) -> Vec<T>
+        ensures { result.items ≡ self }
+    {
+        self.items
+    }
+
     pub fn as_slice(&self) -> &[T]
         ensures { result.now ≡ self.now }
     {
@@ -92,6 +99,7 @@ impl<T: Copy> Items<T> {
         })
     }
 
+    /// An equal list, with no room to spare.
     pub fn copy(&self) -> Result<Items<T>, AllocError>
         ensures { IfOk result (λ it. it ≡ self.now) }
     {
@@ -102,7 +110,7 @@ impl<T: Copy> Items<T> {
 }
 
 impl Items<u8> {
-    /// Whether both have the same bytes.
+    /// Whether both have the same bytes. It takes no memory.
     pub fn same(&self, other: &Items<u8>) -> bool
         ensures { IsTrue result ↔ (self.now ≡ other.now) }
     {

@@ -46,6 +46,7 @@ impl Text {
         self.inner.len()
     }
 
+    /// An equal text, with no room to spare.
     pub fn copy(&self) -> Result<Text, AllocError>
         ensures { IfOk result (λ t. t ≡ self.now) }
     {
@@ -60,7 +61,7 @@ impl Text {
         self.inner.as_str().is_empty()
     }
 
-    /// Whether both have the same bytes.
+    /// Whether both have the same bytes. It takes no memory.
     pub fn same(&self, other: &Text) -> bool
         ensures { IsTrue result ↔ (self.now ≡ other.now) }
     {

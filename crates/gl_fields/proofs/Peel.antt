@@ -1,5 +1,5 @@
 -- Each part of the bytes ends where it says: two parts in front of more bytes are equal where the whole is.
-use Rattle.std.proofs.Common.{◌≡◌, ℕ, zero, suc, ◌+◌, ◌^◌, ◌<◌, ◌≤◌, List, [], ◌∷◌, ◌++◌, length, take, drop, get_or, refl, sym, ◌∙◌, ap, arith, ℤ, pos, negsuc, ◌≤ℤ◌, append_assoc}
+use Rattle.std.proofs.Common.{◌≡◌, ℕ, ◌^◌, ◌<◌, List, [], ◌∷◌, ◌++◌, length, take, drop, get_or, refl, sym, ◌∙◌, ap, arith, ℤ, pos, negsuc, ◌≤ℤ◌, append_assoc}
 use Rattle.std.specs.List.{All, flat_map}
 use Rattle.std.specs.Int.{to_be_bytes, from_be_bytes, cast_signed, cast_unsigned, w16, w32, w64}
 use Rattle.std.specs.Int.RustNames.{FitsSigned}
@@ -10,10 +10,8 @@ use Rattle.std.proofs.lemmas.List.Elements.{All-head, All-tail}
 use Rattle.gl_fields.specs.declared.field.Field.{Field}
 use Rattle.gl_fields.specs.declared.field.Value.{Value}
 use Rattle.gl_fields.specs.declared.field.Value.TheVariants.{Text, Whole}
-use Rattle.gl_fields.specs.Fields.{IsValue}
 use Rattle.gl_fields.specs.Entries.{short_text, long_text}
 use Rattle.gl_fields.specs.Outcomes.{value_bytes, field_bytes}
-use Rattle.gl_fields.specs.Places.{HasLengths}
 
 -- two parts of one length
 pub peel : (a b x y : List ℕ) → length a ≡ length b → a ++ x ≡ b ++ y → (a ≡ b) × (x ≡ y)

@@ -1,19 +1,18 @@
 -- What stands at a place of a map, and the map with a field put there.
-use Rattle.std.proofs.Common.{◌≡◌, ℕ, zero, suc, ◌+◌, ◌<◌, ◌≤◌, Bool, true, false, List, [], ◌∷◌, ◌++◌, length, take, drop, get_or, filter, refl, sym, ◌∙◌, ap, arith, cond, add-one, drop-cons, subst, ltb, Result, Ok, Err, Option, Some, None, append_assoc}
-use Rattle.std.specs.List.{All, HoldsAt, insert, AllWithin}
+use Rattle.std.proofs.Common.{◌≡◌, ℕ, ◌+◌, ◌<◌, ◌≤◌, Bool, true, false, List, [], ◌∷◌, ◌++◌, length, take, drop, get_or, filter, refl, sym, ◌∙◌, ap, arith, add-one, drop-cons, subst, ltb, Result, Ok, Err, Some, None}
+use Rattle.std.specs.List.{All, HoldsAt, insert}
 use Rattle.std.specs.List.Sorted.{IsBinarySearchResult, IsSearchInRange, IsNonDecreasingBy}
 use Rattle.std.specs.Ordering.{ordering_index}
 use Rattle.std.specs.Str.{bytes_eq}
 use Rattle.std.specs.declared.cmp.Ordering.{Ordering}
 use Rattle.std.specs.declared.cmp.Ordering.TheVariants.{Less, Equal, Greater}
-use Rattle.std.proofs.lemmas.List.{take-append-drop, append-nil, get_or-take, get_or-drop, length-take, length-drop, set_split}
-use Rattle.std.proofs.lemmas.List.Elements.{All-head, All-tail, All-nil, All-cons, All-append, All-weaker, filter-append}
+use Rattle.std.proofs.lemmas.List.{take-append-drop, append-nil, get_or-take, get_or-drop, length-take, length-drop}
+use Rattle.std.proofs.lemmas.List.Elements.{All-head, All-tail, All-nil, All-cons, All-weaker, filter-append}
 use borrow.Author.Tests.{ltb-true, ltb-false}
 use Rattle.gl_fields.specs.declared.field.Field.{Field}
-use Rattle.gl_fields.specs.declared.field.Value.{Value}
 use Rattle.gl_fields.specs.Fields.{comes_before, first_value, named, value_of, with_field, Rises}
 use Rattle.gl_fields.specs.Places.{Parts, IsPlaceOf}
-use Rattle.gl_fields.proofs.Names.{order, before-trans, Less-from_before, before-from_Less, before-from_Greater, Greater-from_before, same-from_Equal, itself_same, same_differs, same_differs_back, not_before_back, not_before_itself}
+use Rattle.gl_fields.proofs.Names.{order, before-trans, Less-from_before, before-from_Less, before-from_Greater, same-from_Equal, itself_same, same_differs, same_differs_back, not_before_back, not_before_itself}
 use Rattle.gl_fields.proofs.Rising.{Rises-at}
 
 pub filter-all : {X : Type 0} (p : X → Bool) (xs : List X) → All (λ (x : X). p x ≡ true) xs → filter p xs ≡ xs

@@ -1,6 +1,6 @@
 -- The bytes of an entry or of an outcome say it.
-use Rattle.std.proofs.Common.{◌≡◌, ℕ, ◌+◌, ◌^◌, ◌<◌, ◌≤◌, eqb, cond, List, [], ◌∷◌, ◌++◌, length, drop, get_or, refl, sym, ◌∙◌, ap, arith, append_assoc}
-use Rattle.std.specs.List.{All, flat_map}
+use Rattle.std.proofs.Common.{◌≡◌, ℕ, ◌^◌, ◌<◌, ◌≤◌, eqb, cond, List, [], ◌∷◌, ◌++◌, length, drop, get_or, refl, sym, ◌∙◌, ap, arith, append_assoc}
+use Rattle.std.specs.List.{flat_map}
 use Rattle.std.specs.Int.{to_be_bytes, from_be_bytes, w16, w32, w64}
 use Rattle.std.proofs.lemmas.Nat.{from_be_bytes-to_be_bytes_4}
 use Rattle.std.proofs.lemmas.List.{append-nil}
@@ -16,7 +16,7 @@ use Rattle.gl_fields.specs.declared.entry.Outcome.TheVariants.{Applied, Stored, 
 use Rattle.gl_fields.specs.declared.field.Field.{Field}
 use Rattle.gl_fields.specs.declared.field.Value.{Value}
 use Rattle.gl_fields.specs.declared.field.Value.TheVariants.{Text, Whole}
-use Rattle.gl_fields.specs.Fields.{IsValue, IsField, IsFieldMap, field_size, counted_size, value_text}
+use Rattle.gl_fields.specs.Fields.{IsValue, IsField, field_size, value_text}
 use Rattle.gl_fields.specs.Entries.{short_text, long_text, entry_bytes}
 use Rattle.gl_fields.specs.Outcomes.{field_bytes, cause_bytes, outcome_bytes}
 use Rattle.gl_fields.specs.Bounds.{IsEntry, IsPayload, IsOutcome, IsStored, IsCause}

@@ -1,7 +1,7 @@
 -- The map with a field put in: its length, its size, and that it is a map.
 use Rattle.std.proofs.Common.{◌≡◌, ℕ, ◌+◌, ◌-◌, ◌<◌, ◌≤◌, Bool, true, false, not, cond, ltb, List, [], ◌∷◌, ◌++◌, length, take, drop, get_or, filter, refl, sym, ◌∙◌, ap, subst, arith, length-append, add-one, Option, Some, None, codes, ◌&&◌}
 use Rattle.std.proofs.Math.ListN.{set}
-use Rattle.std.specs.List.{All, HoldsAt, insert}
+use Rattle.std.specs.List.{HoldsAt, insert}
 use Rattle.std.specs.Str.{bytes_eq}
 use Rattle.std.proofs.lemmas.List.{length-take, length-drop, set_split}
 use Rattle.std.proofs.lemmas.List.Elements.{All-cons, All-append, All-filter, filter_passes}
@@ -10,8 +10,8 @@ use borrow.Author.Tests.{ltb-false, le-ltb}
 use Rattle.gl_fields.specs.declared.field.Field.{Field}
 use Rattle.gl_fields.specs.declared.field.FieldRefusal.{FieldRefusal}
 use Rattle.gl_fields.specs.declared.field.FieldRefusal.TheVariants.{BadFieldName, TooManyFields, TooLarge, Reserved}
-use Rattle.gl_fields.specs.Fields.{comes_before, with_field, field_size, counted_size, refusal_of, is_field_name, is_text, IsValue, IsField, IsFieldMap, Rises}
-use Rattle.gl_fields.specs.Places.{Parts, IsPlaceOf}
+use Rattle.gl_fields.specs.Fields.{comes_before, with_field, field_size, counted_size, refusal_of, is_field_name, is_text, IsValue, IsField, IsFieldMap}
+use Rattle.gl_fields.specs.Places.{Parts}
 use Rattle.gl_fields.proofs.Names.{before-trans}
 use Rattle.gl_fields.proofs.Rising.{Rises-joined, Rises-filter}
 use Rattle.gl_fields.proofs.Placing.{Named, with_field-new, with_field-old, around_one}

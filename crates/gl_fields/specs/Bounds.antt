@@ -1,12 +1,12 @@
 -- The bounds of entries and outcomes: those under which their bytes read back to them.
-use Rattle.std.specs.Prelude.{◌≡◌, ℕ, ◌+◌, ◌^◌, ◌<◌, ◌≤◌, List, [], ◌∷◌, length, ⊤}
+use Rattle.std.specs.Prelude.{ℕ, ◌^◌, ◌<◌, ◌≤◌, List, length, ⊤}
 use Rattle.std.specs.List.{All}
 use Rattle.std.specs.Str.{IsUtf8}
 use Rattle.gl_fields.specs.declared.entry.Entry.{Entry}
 use Rattle.gl_fields.specs.declared.entry.Entry.TheVariants.{Admin, Message}
 use Rattle.gl_fields.specs.declared.entry.Message.{Message as Payload}
 use Rattle.gl_fields.specs.declared.entry.Cause.{Cause}
-use Rattle.gl_fields.specs.declared.entry.Cause.TheVariants.{NotJson, TooDeep, Compressed, NoShortMessage, TooManyFields, TooLarge}
+use Rattle.gl_fields.specs.declared.entry.Cause.TheVariants.{NotJson}
 use Rattle.gl_fields.specs.declared.entry.Outcome.{Outcome}
 use Rattle.gl_fields.specs.declared.entry.Outcome.TheVariants.{Applied, Stored, Dropped, Undecodable}
 use Rattle.gl_fields.specs.declared.field.Field.{Field}

@@ -22,6 +22,7 @@ pub enum Entry {
 }
 
 impl Message {
+    /// An equal message.
     pub fn copy(&self) -> Result<Message, AllocError>
         ensures { IfOk result (λ m. m ≡ self.now) }
     {
@@ -34,7 +35,7 @@ impl Message {
         })
     }
 
-    /// Whether both are equal.
+    /// Whether both are equal. It takes no memory.
     pub fn same(&self, other: &Message) -> bool
         ensures { IsTrue result ↔ (self.now ≡ other.now) }
     {
@@ -47,6 +48,7 @@ impl Message {
 }
 
 impl Entry {
+    /// An equal entry.
     pub fn copy(&self) -> Result<Entry, AllocError>
         ensures { IfOk result (λ e. e ≡ self.now) }
     {
@@ -56,7 +58,7 @@ impl Entry {
         }
     }
 
-    /// Whether both are equal.
+    /// Whether both are equal. It takes no memory.
     pub fn same(&self, other: &Entry) -> bool
         ensures { IsTrue result ↔ (self.now ≡ other.now) }
     {

@@ -1,6 +1,6 @@
 ghost use Rattle.std.specs.Prelude.{◌≡◌, ◌==◌, [], length, IfOk, OnOk, OnErr, IfErr, MatchOption, option_copied};
 ghost use Rattle.gl_fields.specs.declared.field.FieldRefusal.TheVariants.{OutOfMemory};
-ghost use Rattle.gl_fields.specs.Fields.{value_of, value_text, with_field, refusal_of, is_text, IsValue};
+ghost use Rattle.gl_fields.specs.Fields.{value_of, value_text, with_field, refusal_of, is_text, IsValue, IsFieldMap};
 
 use crate::place::{position_of, put, refusal};
 use crate::size::signed_decimal_len;
@@ -25,9 +25,13 @@ pub struct Field {
 /// Why a field isn't set.
 #[derive(Clone, Copy, Debug, PartialEq, Eq)]
 pub enum FieldRefusal {
+    /// The name isn't 1 to 255 letters, digits, `_`, `.` and `-`, or it is `_id`.
     BadFieldName,
+    /// It would be the 257th field.
     TooManyFields,
+    /// Names and texts would count more than 2,097,152 bytes.
     TooLarge,
+    /// `timestamp` can't be a text.
     Reserved,
     OutOfMemory,
 }
@@ -80,6 +84,7 @@ impl Value {
         }
     }
 
+    /// An equal value.
     pub fn copy(&self) -> Result<Value, AllocError>
         ensures { IfOk result (λ v. v ≡ self.now) }
     {
@@ -91,6 +96,7 @@ impl Value {
 }
 
 impl Field {
+    /// An equal field.
     pub fn copy(&self) -> Result<Field, AllocError>
         ensures { IfOk result (λ f. f ≡ self.now) }
     {
@@ -102,6 +108,7 @@ impl Field {
 }
 
 impl FieldMap {
+    /// An empty map, which takes no memory.
     pub fn new(alloc: Global) -> FieldMap
         ensures { result ≡ [] }
     {
@@ -110,7 +117,7 @@ impl FieldMap {
         }
     }
 
-    /// An empty map with room for this many fields.
+    /// An empty map with room for this many fields. No clause tells of the room.
     pub fn with_capacity(alloc: Global, capacity: usize) -> Result<FieldMap, AllocError>
         ensures { IfOk result (λ m. m ≡ []) }
     {
@@ -118,8 +125,10 @@ impl FieldMap {
         Ok(FieldMap { fields })
     }
 
+    /// How many fields there are, at most 256.
     pub fn len(&self) -> usize
-        ensures { result ≡ length self.now }
+        ensures len { result ≡ length self.now }
+        ensures lawful { IsFieldMap self.now }
     {
         self.fields.len()
     }
@@ -130,6 +139,7 @@ impl FieldMap {
         self.fields.is_empty()
     }
 
+    /// The fields, in rising order of their names' bytes.
     pub fn as_slice(&self) -> &[Field]
         ensures { result.now ≡ self.now }
     {
@@ -147,6 +157,9 @@ impl FieldMap {
     }
 
     /// Puts a field in, or in the place of the field of its name. A refusal changes nothing.
+    ///
+    /// The first cause that holds is told, in this order: BadFieldName, Reserved, TooManyFields,
+    /// TooLarge. OutOfMemory comes only where none of them holds.
     pub fn set(&mut self, name: &str, value: Value) -> Result<(), FieldRefusal>
         ensures ok { OnOk result (self.new ≡ with_field (record { name = name.now; value = value }) self.old) }
         ensures err { OnErr result (self.new ≡ self.old) }
@@ -160,6 +173,7 @@ impl FieldMap {
         Ok(())
     }
 
+    /// An equal map, with no room to spare.
     pub fn copy(&self) -> Result<FieldMap, AllocError>
         ensures { IfOk result (λ m. m ≡ self.now) }
     {

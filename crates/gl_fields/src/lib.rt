@@ -1,6 +1,7 @@
 //! What the journal and the index log hold: entries and outcomes, the fields of a message, and their bytes.
 //!
 //! A contract sees a `FieldMap` as the list of its fields in rising order of their names' bytes. The
+//! map keeps at most 256 lawful fields; `set` takes a field or says the first rule that it breaks. The
 //! encoders give exactly the bytes that `specs/Entries` and `specs/Outcomes` define, and within the
 //! bounds of `specs/Bounds` no two entries and no two outcomes have the same bytes.
 #![tactic(auto)]
@@ -10,6 +11,8 @@ mod entry;
 mod field;
 mod place;
 mod size;
+#[cfg(test)]
+mod tests;
 
 pub use encode::{encode_entry, encode_outcome, law_bytes_read_back};
 pub use entry::{Cause, Entry, Message, Outcome};

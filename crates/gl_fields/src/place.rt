@@ -12,6 +12,7 @@ use std::alloc::AllocError;
 
 const MAX_FIELDS: usize = 256;
 
+// In bytes, as the size of a map is.
 const MAX_NAME: usize = 255;
 
 const MAX_SIZE: usize = 2_097_152;

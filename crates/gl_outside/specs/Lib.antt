@@ -1,7 +1,11 @@
 pub mod Areas
 pub mod Calls
+pub mod Crash
 pub mod Disk
 pub mod Events
 pub mod Faults
+pub mod Listed
+pub mod Mute
 pub mod RecordView
 pub mod Shop
+pub mod Views

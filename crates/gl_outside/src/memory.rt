@@ -1,56 +1,74 @@
 // A disk in memory. It keeps a record of its calls, by which each image that a crash may leave can be told.
-ghost use Rattle.std.specs.Prelude.{◌≡◌, ℕ, ◌+◌, ◌≤◌, length, IfOk, []};
-ghost use Rattle.gl_base.specs.Counts.{Rose};
-ghost use Rattle.gl_outside.specs.Areas.{bytes_in};
+ghost use Rattle.std.specs.Prelude.{◌≡◌, ◌↔◌, ◌⊎◌, ℕ, ◌+◌, ◌-◌, ◌^◌, ◌<◌, ◌≤◌, length, min, take, drop, IfOk, OnOk, OnErr, IsErrOf, []};
+ghost use Rattle.gl_base.specs.Counts.{HasCause};
+ghost use Rattle.gl_outside.specs.declared.fault.Outside.TheVariants.{Failed, OutOfMemory};
+ghost use Rattle.gl_outside.specs.Faults.{NeedsNoMemory};
+ghost use Rattle.gl_outside.specs.Areas.{bytes_in, held};
+ghost use Rattle.gl_outside.specs.Crash.{AreLawful};
+ghost use Rattle.gl_outside.specs.Disk.{IsUnchanged, Elapses, Torn, CutTo, InArea, Follows, IsDurable, overwritten};
 ghost use Rattle.gl_outside.specs.Events.{content, told_by};
+ghost use Rattle.gl_outside.specs.Listed.{IsListed, one_more};
+ghost use Rattle.gl_outside.specs.Views.{DiskView, IsUsedUp, HasRoom, CountsCall};
 
 use crate::areas::{Area, bytes_of, cut_area, write_area};
-use crate::record::{MORE_CALLS, Record};
+use crate::listed::{count_one, is_listed};
+use crate::record::Record;
 use crate::{Disk, Outside};
 use std::alloc::{AllocError, Global};
+use std::marker::Model;
 
+// For how many later calls there is to be room, and for how many bytes more than the areas hold.
+const MORE_CALLS: usize = 4096;
+
+const MORE_BYTES: usize = 4096;
+
+/// A disk in memory, which fails exactly at listed calls.
+///
+/// Making one, `length`, `read` and a `write_at` past an area's end take memory: they leave room for
+/// the record of 4,096 later calls, and of 4,096 bytes more than the areas then hold. Every other
+/// call takes none, and fails where it is listed or where it needs more than is left of that room.
 #[derive(Drop)]
 pub struct MemoryDisk {
     alloc: Global,
     areas: Vec<Area>,
     calls: Record,
-    // the numbers of the calls that are to fail, from 1
     failing: Vec<u64>,
     made: u64,
     faults: u64,
-    ghost holds: { (b : ℕ) → bytes_in areas.items b ≡ content calls.events b },
 }
 
-// Counts a call, and whether it is to fail.
-fn is_listed(failing: &[u64], made: &mut u64) -> bool {
-    *made = made.saturating_add(1);
-    failing.contains(made)
-}
+impl Model for MemoryDisk {
+    ghost use Rattle.std.specs.Prelude.{◌≡◌, ℕ};
+    ghost use Rattle.gl_outside.specs.Areas.{bytes_in};
+    ghost use Rattle.gl_outside.specs.Crash.{AreLawful};
+    ghost use Rattle.gl_outside.specs.Events.{content};
+    ghost use Rattle.gl_outside.specs.Views.{DiskView};
 
-fn count(faults: &mut u64)
-    ensures rose { Rose faults.old faults.new }
-    ensures later { faults.old ≤ faults.new }
-{
-    *faults = faults.saturating_add(1);
+    ghost Value = { DiskView };
+
+    ghost view = { λ d. record { events = d.calls.events; failing = d.failing.items; made = d.made; faults = d.faults; calls_left = d.calls.calls_left; bytes_left = d.calls.bytes_left } };
+
+    ghost invariant = { λ d. record { holds : (b : ℕ) → bytes_in d.areas.items b ≡ content d.calls.events b; lawful : AreLawful d.calls.events } };
 }
 
 // How much room there is to be for bytes.
-fn room_of(areas: &[Area]) -> usize {
-    let mut held = MORE_CALLS;
+fn room_of(areas: &[Area]) -> usize
+    ensures { result ≡ min (4096 + held areas.now) (2 ^ 64 - 1) }
+{
+    let mut room = MORE_BYTES;
     for a in areas {
-        held = held.saturating_add(a.bytes.len());
+        room = room.saturating_add(a.bytes.len());
     }
-    held
+    room
 }
 
 impl MemoryDisk {
-    /// An empty disk, of which these calls are to fail.
+    /// An empty disk. The calls whose numbers are in `failing` fail; the first call is 1, and from 2^64 - 1 on each is that.
     pub fn new(alloc: Global, failing: Vec<u64>) -> Result<Self, AllocError>
-        ensures empty { IfOk result (λ d. d.calls.events ≡ []) }
-        ensures room { IfOk result (λ d. (d.calls.calls_left ≡ 4097) × (d.calls.bytes_left ≡ 4096)) }
+        ensures { IfOk result (λ d. d ≡ record { events = []; failing = failing.items; made = 0; faults = 0; calls_left = 4096; bytes_left = 4096 }) }
     {
         let mut calls = Record::new(alloc);
-        calls.reserve(MORE_CALLS)?;
+        calls.reserve(MORE_CALLS, MORE_BYTES)?;
         Ok(MemoryDisk {
             alloc,
             areas: Vec::new(alloc),
@@ -61,34 +79,61 @@ impl MemoryDisk {
         })
     }
 
-    pub fn bytes(&self, area: u32) -> &[u8] {
+    /// The bytes of an area. Each write began within what its area read as then.
+    pub fn bytes(&self, area: u32) -> &[u8]
+        ensures bytes { result.now ≡ content self.now.events area }
+        ensures lawful { AreLawful self.now.events }
+    {
         bytes_of(&self.areas, area)
     }
 }
 
 impl Disk for MemoryDisk {
-    ghost state = { λ d. told_by d.calls.events };
+    ghost state = { λ d. told_by d.events };
 
     ghost faults = { λ d. d.faults };
 
-    fn length(&mut self, area: u32) -> Result<u64, Outside> {
+    fn length(&mut self, area: u32) -> Result<u64, Outside>
+        ensures answer { IfOk result (λ n. n ≡ length (content self.old.events area)) }
+        ensures unchanged { IsUnchanged (told_by self.old.events) (told_by self.new.events) }
+        ensures time { Elapses (told_by self.old.events) (told_by self.new.events) }
+        ensures counted { OnOk result (length self.new.events ≡ length self.old.events + 1) }
+        ensures cause { HasCause Failed self.old.faults self.new.faults result }
+        ensures exact { IsErrOf result Failed ↔ IsListed self.old.failing self.old.made }
+        ensures fault { IsErrOf result Failed → self.new.faults ≡ one_more self.old.faults }
+        ensures call { CountsCall self.old self.new }
+        ensures room { OnOk result (HasRoom self.new) }
+        ensures same_room { OnErr result ((self.new.calls_left ≡ self.old.calls_left) × (self.new.bytes_left ≡ self.old.bytes_left)) }
+    {
         if is_listed(&self.failing, &mut self.made) {
-            count(&mut self.faults);
+            count_one(&mut self.faults);
             return Err(Outside::Failed);
         }
         let room = room_of(&self.areas);
-        self.calls.reserve(room)?;
+        self.calls.reserve(MORE_CALLS + 1, room)?;
         self.calls.look();
         Ok(bytes_of(&self.areas, area).len() as u64)
     }
 
-    fn read(&mut self, area: u32, at: u64, into: &mut [u8]) -> Result<(), Outside> {
+    fn read(&mut self, area: u32, at: u64, into: &mut [u8]) -> Result<(), Outside>
+        requires { at + length into.old ≤ length (content self.old.events area) }
+        ensures bytes { OnOk result (into.new ≡ take (length into.old) (drop at (content self.old.events area))) }
+        ensures unchanged { IsUnchanged (told_by self.old.events) (told_by self.new.events) }
+        ensures time { Elapses (told_by self.old.events) (told_by self.new.events) }
+        ensures counted { OnOk result (length self.new.events ≡ length self.old.events + 1) }
+        ensures cause { HasCause Failed self.old.faults self.new.faults result }
+        ensures exact { IsErrOf result Failed ↔ IsListed self.old.failing self.old.made }
+        ensures fault { IsErrOf result Failed → self.new.faults ≡ one_more self.old.faults }
+        ensures call { CountsCall self.old self.new }
+        ensures room { OnOk result (HasRoom self.new) }
+        ensures same_room { OnErr result ((self.new.calls_left ≡ self.old.calls_left) × (self.new.bytes_left ≡ self.old.bytes_left)) }
+    {
         if is_listed(&self.failing, &mut self.made) {
-            count(&mut self.faults);
+            count_one(&mut self.faults);
             return Err(Outside::Failed);
         }
         let room = room_of(&self.areas);
-        self.calls.reserve(room)?;
+        self.calls.reserve(MORE_CALLS + 1, room)?;
         self.calls.look();
         let bytes = bytes_of(&self.areas, area);
         let from = at as usize;
@@ -96,7 +141,23 @@ impl Disk for MemoryDisk {
         Ok(())
     }
 
-    fn write_at(&mut self, area: u32, at: u64, bytes: &[u8]) -> Result<(), Outside> {
+    fn write_at(&mut self, area: u32, at: u64, bytes: &[u8]) -> Result<(), Outside>
+        requires { at ≤ length (content self.old.events area) }
+        ensures written { OnOk result (content self.new.events area ≡ overwritten at bytes.now (content self.old.events area)) }
+        ensures in_part { InArea area (Torn at (length bytes.now)) (content self.old.events) (content self.new.events) }
+        ensures crash { Follows (InArea area (Torn at (length bytes.now))) (told_by self.old.events) (told_by self.new.events) }
+        ensures memory { IsErrOf result OutOfMemory → length (content self.old.events area) < at + length bytes.now }
+        ensures memory_unchanged { IsErrOf result OutOfMemory → IsUnchanged (told_by self.old.events) (told_by self.new.events) }
+        ensures time { Elapses (told_by self.old.events) (told_by self.new.events) }
+        ensures counted { OnOk result (length self.new.events ≡ length self.old.events + 1) }
+        ensures cause { HasCause Failed self.old.faults self.new.faults result }
+        ensures exact { IsErrOf result Failed ↔ (IsListed self.old.failing self.old.made ⊎ (at + length bytes.now ≤ length (content self.old.events area)) × IsUsedUp self.old (length bytes.now)) }
+        ensures fault { IsErrOf result Failed → self.new.faults ≡ one_more self.old.faults }
+        ensures call { CountsCall self.old self.new }
+        ensures room { OnOk result (length (content self.old.events area) < at + length bytes.now → HasRoom self.new) }
+        ensures left { OnOk result (at + length bytes.now ≤ length (content self.old.events area) → (self.new.calls_left + 1 ≡ self.old.calls_left) × (self.new.bytes_left + length bytes.now ≡ self.old.bytes_left)) }
+        ensures spent { at + length bytes.now ≤ length (content self.old.events area) → (self.old.calls_left ≤ self.new.calls_left + 1) × (self.old.bytes_left ≤ self.new.bytes_left + length bytes.now) }
+    {
         let len = bytes_of(&self.areas, area).len();
         let start = at as usize;
         if is_listed(&self.failing, &mut self.made) {
@@ -104,15 +165,21 @@ impl Disk for MemoryDisk {
             if self.calls.calls_left() > 0 && bytes.len() <= self.calls.bytes_left() {
                 self.calls.write(area, at, bytes, false);
             }
-            count(&mut self.faults);
+            count_one(&mut self.faults);
             return Err(Outside::Failed);
         }
         if bytes.len() > len - start {
-            let room = room_of(&self.areas).saturating_add(bytes.len());
-            self.calls.reserve(room)?;
+            // The area holds at most so many bytes more afterwards, and the record takes them too.
+            let room = room_of(&self.areas)
+                .saturating_add(bytes.len())
+                .saturating_add(bytes.len());
+            self.calls.reserve(MORE_CALLS + 1, room)?;
+            write_area(self.alloc, &mut self.areas, area, start, bytes)?;
+            self.calls.write(area, at, bytes, true);
+            return Ok(());
         }
         if self.calls.calls_left() == 0 || bytes.len() > self.calls.bytes_left() {
-            count(&mut self.faults);
+            count_one(&mut self.faults);
             return Err(Outside::Failed);
         }
         write_area(self.alloc, &mut self.areas, area, start, bytes)?;
@@ -120,16 +187,29 @@ impl Disk for MemoryDisk {
         Ok(())
     }
 
-    fn cut(&mut self, area: u32, length: u64) -> Result<(), Outside> {
+    fn cut(&mut self, area: u32, length: u64) -> Result<(), Outside>
+        ensures done { OnOk result (content self.new.events area ≡ take length (content self.old.events area)) }
+        ensures in_part { InArea area (CutTo length) (content self.old.events) (content self.new.events) }
+        ensures crash { Follows (InArea area (CutTo length)) (told_by self.old.events) (told_by self.new.events) }
+        ensures memory { NeedsNoMemory result }
+        ensures time { Elapses (told_by self.old.events) (told_by self.new.events) }
+        ensures counted { OnOk result (Rattle.std.specs.Prelude.length self.new.events ≡ Rattle.std.specs.Prelude.length self.old.events + 1) }
+        ensures cause { HasCause Failed self.old.faults self.new.faults result }
+        ensures exact { IsErrOf result Failed ↔ (IsListed self.old.failing self.old.made ⊎ (self.old.calls_left ≡ 0)) }
+        ensures fault { IsErrOf result Failed → self.new.faults ≡ one_more self.old.faults }
+        ensures call { CountsCall self.old self.new }
+        ensures left { OnOk result (self.new.calls_left + 1 ≡ self.old.calls_left) }
+        ensures spent { (self.old.calls_left ≤ self.new.calls_left + 1) × (self.new.bytes_left ≡ self.old.bytes_left) }
+    {
         let listed = is_listed(&self.failing, &mut self.made);
         if self.calls.calls_left() == 0 {
-            count(&mut self.faults);
+            count_one(&mut self.faults);
             return Err(Outside::Failed);
         }
         if listed {
             // It may be done in part.
             self.calls.cut(area, length, false);
-            count(&mut self.faults);
+            count_one(&mut self.faults);
             return Err(Outside::Failed);
         }
         cut_area(&mut self.areas, area, length as usize);
@@ -137,9 +217,21 @@ impl Disk for MemoryDisk {
         Ok(())
     }
 
-    fn sync(&mut self, area: u32) -> Result<(), Outside> {
+    fn sync(&mut self, area: u32) -> Result<(), Outside>
+        ensures durable { OnOk result (IsDurable area (content self.old.events area) (told_by self.new.events)) }
+        ensures unchanged { IsUnchanged (told_by self.old.events) (told_by self.new.events) }
+        ensures memory { NeedsNoMemory result }
+        ensures time { Elapses (told_by self.old.events) (told_by self.new.events) }
+        ensures counted { OnOk result (length self.new.events ≡ length self.old.events + 1) }
+        ensures cause { HasCause Failed self.old.faults self.new.faults result }
+        ensures exact { IsErrOf result Failed ↔ (IsListed self.old.failing self.old.made ⊎ (self.old.calls_left ≡ 0)) }
+        ensures fault { IsErrOf result Failed → self.new.faults ≡ one_more self.old.faults }
+        ensures call { CountsCall self.old self.new }
+        ensures left { OnOk result (self.new.calls_left + 1 ≡ self.old.calls_left) }
+        ensures spent { (self.old.calls_left ≤ self.new.calls_left + 1) × (self.new.bytes_left ≡ self.old.bytes_left) }
+    {
         if is_listed(&self.failing, &mut self.made) || self.calls.calls_left() == 0 {
-            count(&mut self.faults);
+            count_one(&mut self.faults);
             return Err(Outside::Failed);
         }
         self.calls.sync(area);

@@ -1,5 +1,5 @@
 -- The search parts the map, and the fields of the name are the one at the place, or none.
-use Rattle.std.proofs.Common.{◌≡◌, ap, sym, ◌∙◌, Some}
+use Rattle.std.proofs.Common.{ap, sym, ◌∙◌, Some}
 use Rattle.gl_fields.specs.declared.field.Field.{Field}
 use Rattle.gl_fields.specs.Fields.{value_of}
 use Rattle.gl_fields.proofs.Placing.{value_of-old, value_of-new}
