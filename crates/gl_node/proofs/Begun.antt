@@ -1,0 +1,46 @@
+-- Two logs begun on one disk, the journal first.
+use Rattle.std.proofs.Common.{◌≡◌, ◌≢◌, ⊎_elim, ℕ, Bool, IsTrue, [], refl, sym, ◌∙◌, ap, subst, arith}
+use Rattle.gl_outside.specs.Disk.{Image, DiskState, Tells, LeavesOnly}
+use Rattle.gl_outside.proofs.Moments.{at_end}
+use Rattle.gl_gatelog.specs.declared.kind.Log.TheVariants.{Journal, Index}
+use Rattle.gl_gatelog.specs.Log.{area_of}
+use Rattle.gl_gatelog.specs.Stand.{StandsOn, IsEmptyBehind, LeftByOpening}
+use Rattle.gl_gatelog.specs.View.{GateView, begun}
+use Rattle.gl_gatelog.proofs.Apart.{OnlyIn, other_area, other_stands}
+use Rattle.gl_node.specs.Node.{StoreOn}
+
+pub still : (old new : DiskState) → new.tells ≡ old.tells → Tells old → Tells new
+still old new same tells = subst (λ (b : Bool). IsTrue b) (sym same) tells
+
+two_logs : Index ≢ Journal
+two_logs same = cc same
+
+-- the index log's areas are as they were
+still_empty : (segment : ℕ) (d0 d1 : DiskState) → IsEmptyBehind Index d0 → LeavesOnly d0 d1 (LeftByOpening Journal segment d0) → IsEmptyBehind Index d1
+still_empty segment d0 d1 empty run c now k some few = ⊎_elim
+    (λ was. empty c was k some few)
+    (λ after. after.steps.elsewhere (area_of Index k) (other_area Journal Index two_logs k 0) ∙ empty after.from after.image k some few)
+    (at_end d0 d1 _ run c now)
+
+-- each image is one from before, with no area changed but those of the index log
+only_index : (segment : ℕ) (d1 d2 : DiskState) → LeavesOnly d1 d2 (LeftByOpening Index segment d1) → (c : Image) → d2.may_leave c → (x : Image) × d1.may_leave x × OnlyIn Index x c
+only_index segment d1 d2 run c now = ⊎_elim
+    (λ was. let same : (x : Image) × d1.may_leave x × OnlyIn Index x c = (c, was, λ b apart. refl) in same)
+    (λ after. let same : (x : Image) × d1.may_leave x × OnlyIn Index x c = (after.from, after.image, λ b apart. after.steps.elsewhere b (apart 0 (omega arith))) in same)
+    (at_end d1 d2 _ run c now)
+
+-- an empty store stands on the disk, once both logs are begun
+pub both_begun : (journal index : GateView) (segment limit : ℕ) (d0 d1 d2 : DiskState) → journal ≡ begun Journal segment limit → IsEmptyBehind Index d0
+    → StandsOn journal [] d1 → LeavesOnly d0 d1 (LeftByOpening Journal segment d0)
+    → (IsEmptyBehind Index d1 → StandsOn index [] d2) → (IsEmptyBehind Index d1 → LeavesOnly d1 d2 (LeftByOpening Index segment d1))
+    → StoreOn (record { journal = journal; index = index; entries = []; outcomes = [] }) d2
+both_begun journal index segment limit d0 d1 d2 is empty stands run second second_run =
+    let here : IsEmptyBehind Index d1 = still_empty segment d0 d1 empty run in
+    record {
+      journal_batches = [];
+      index_batches = [];
+      journal = other_stands Index journal [] d1 d2 (λ same. two_logs (sym same ∙ ap (λ (v : GateView). v.log) is)) (only_index segment d1 d2 (second_run here)) stands;
+      index = second here;
+      entries = refl;
+      outcomes = refl;
+    }

@@ -1,0 +1,12 @@
+pub mod Arrivals
+pub mod Bounded
+pub mod Calls
+pub mod Claims
+pub mod Commits
+pub mod Configuration
+pub mod Decoding
+pub mod Entering
+pub mod Node
+pub mod Staging
+pub mod Standing
+pub mod State

@@ -1,0 +1,94 @@
+-- What an image shows, and which store is damaged.
+use Rattle.std.specs.Prelude.{◌≡◌, ℕ, ◌+◌, ◌<◌, ◌≤◌, ◌^◌, List, [], ◌∷◌, length, map, take, slice_get, Option, None, Some, IsTrue, ⊤}
+use Rattle.std.specs.List.{All}
+use Rattle.gl_outside.specs.Disk.{Image}
+use Rattle.gl_gatelog.specs.declared.kind.Log.{Log}
+use Rattle.gl_gatelog.specs.declared.kind.Log.TheVariants.{Journal, Index}
+use Rattle.gl_gatelog.specs.Batch.{Batch, size}
+use Rattle.gl_gatelog.specs.Log.{LogIs, area_of, begin, log_end, last_segment, records_of}
+use Rattle.gl_gatelog.specs.Stand.{IsFresh}
+use Rattle.gl_fields.specs.declared.entry.Entry.{Entry}
+use Rattle.gl_fields.specs.declared.entry.Entry.TheVariants.{Admin, Message}
+use Rattle.gl_fields.specs.declared.entry.Outcome.{Outcome}
+use Rattle.gl_fields.specs.Entries.{entry_bytes, version_after}
+use Rattle.gl_fields.specs.Outcomes.{outcome_bytes}
+use Rattle.gl_fields.specs.Bounds.{IsEntry, IsOutcome}
+use Rattle.gl_node.specs.declared.node.Options.{Options}
+use Rattle.gl_node.specs.Configuration.{config_after, is_input}
+use Rattle.gl_node.specs.State.{Base, State, outcomes}
+
+-- An entry may follow these: a message with lawful parts, the version after them, and an input that is known then. There are no commands yet.
+abbrev pub MayFollow : List Entry → Entry → Type 0
+MayFollow before (Admin command) = ⊥
+MayFollow before (Message m) = IsEntry (Message m) × (m.version ≡ version_after before) × IsTrue (is_input (config_after before) m.input)
+
+-- each entry may follow those before it
+abbrev pub IsLawful : List Entry → Type 0
+IsLawful journal = (position : ℕ) (entry : Entry) → slice_get journal position ≡ Some entry → MayFollow (take position journal) entry
+
+-- what a log reads as: no batch, or a segment size and the batches behind the begin batch
+abbrev pub LogShows : Log → Image → Option ℕ → List Batch → Type 0
+LogShows log image None batches = IsFresh log image × (batches ≡ [])
+LogShows log image (Some segment_size) batches = LogIs log segment_size batches image
+
+-- the image shows these entries and these outcomes
+pub record Shows (image : Image) (journal : List Entry) (found : List Outcome) : Type 0 where
+  pub journal_segment : Option ℕ
+  pub index_segment : Option ℕ
+  pub journal_batches : List Batch
+  pub index_batches : List Batch
+  pub journal_reads : LogShows Journal image journal_segment journal_batches
+  pub index_reads : LogShows Index image index_segment index_batches
+  pub entries : records_of journal_batches ≡ map entry_bytes journal
+  pub outcomes : records_of index_batches ≡ map outcome_bytes found
+  pub lawful : IsLawful journal
+  pub bounded : All IsOutcome found
+  pub each_has_entry : length found ≤ length journal
+
+-- behind where its reading ends a log has nothing
+abbrev pub EndsThere : Log → Image → Option ℕ → List Batch → Type 0
+EndsThere log image None batches = (k : ℕ) → 0 < k → k ≤ last_segment log → image (area_of log k) ≡ []
+EndsThere log image (Some segment_size) batches = (k : ℕ) → (log_end log segment_size batches).0 < k → k ≤ last_segment log → image (area_of log k) ≡ []
+
+-- the size that a log records, where it has a batch, is this one
+abbrev pub RecordsSize : ℕ → Option ℕ → Type 0
+RecordsSize segment_size None = ⊤
+RecordsSize segment_size (Some recorded) = recorded ≡ segment_size
+
+-- An image stands for a state: it shows its entries and outcomes, has the segment sizes of its opening, and nothing behind the ends of its logs, so that a later opening may rest on it.
+pub record StandsFor (image : Image) (s : State) : Type 0 where
+  pub shows : Shows image s.journal (outcomes s)
+  pub journal_ends : EndsThere Journal image shows.journal_segment shows.journal_batches
+  pub index_ends : EndsThere Index image shows.index_segment shows.index_batches
+  pub journal_size : RecordsSize s.base.journal_segment shows.journal_segment
+  pub index_size : RecordsSize s.base.index_segment shows.index_segment
+
+-- the ranges of the options
+pub record AreOptions (options : Options) : Type 0 where
+  pub segment_least : 4096 ≤ options.segment
+  pub segment_most : options.segment ≤ 2 ^ 30
+  pub journal_least : 4096 ≤ options.journal_limit
+  pub journal_most : options.journal_limit ≤ 2 ^ 40
+  pub index_least : 4096 ≤ options.index_limit
+  pub index_most : options.index_limit ≤ 2 ^ 42
+
+-- what stands at the opening of an empty store: both logs with their begin batch alone
+abbrev pub empty_base : Options → Base
+empty_base options = record {
+  journal = [];
+  found = [];
+  journal_bytes = size (begin Journal options.segment);
+  index_bytes = size (begin Index options.segment);
+  journal_limit = options.journal_limit;
+  index_limit = options.index_limit;
+  journal_segment = options.segment;
+  index_segment = options.segment;
+}
+
+-- A log whose first area holds more than a lone gate can't be opened yet, and its store counts as damaged at the head of that log; the journal is looked at first.
+abbrev pub IsUsed : Log → Image → Type 0
+IsUsed log image = 1 < length (image (area_of log 0))
+
+abbrev pub IsDamaged : Image → Log → ℕ → ℕ → Type 0
+IsDamaged image Journal area at = IsUsed Journal image × (area ≡ area_of Journal 0) × (at ≡ 0)
+IsDamaged image Index area at = (IsUsed Journal image → ⊥) × IsUsed Index image × (area ≡ area_of Index 0) × (at ≡ 0)

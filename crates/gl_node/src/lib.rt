@@ -1,0 +1,33 @@
+//! The core of the server: a journal of entries, the outcomes of the entries as far as they are
+//! committed, and the ranges of positions that processors hold between the two.
+//!
+//! A node *keeps* a state (`specs/Node`, `Keeps`): each call answers by that state, and makes on it
+//! the events that belong to the call (`specs/State`, `specs/Arrivals`, `specs/Claims`), whatever its
+//! disk tells. Where the disk tells its content, a node *stands on* it (`NodeOn`): then each image
+//! that a crash may leave shows exactly what the node keeps (`law_images_show_the_state`).
+//! However the calls come one after another, the outcomes are those that one thread gets by staging
+//! the journal in order (`law_outcomes_of_one_thread`).
+#![tactic(auto)]
+
+mod answer;
+mod claiming;
+mod committing;
+mod config;
+mod entering;
+mod fault;
+mod law;
+mod mark;
+mod node;
+mod opening;
+mod processing;
+mod staging;
+mod work;
+
+pub use answer::{Arrival, Claimed, Finished};
+pub use config::Config;
+pub use fault::{NodeFault, OpenFault};
+pub use gl_gatelog::Log;
+pub use law::law_outcomes_of_one_thread;
+pub use mark::{Claim, Mark};
+pub use node::{Node, Options, law_images_show_the_state};
+pub use work::{Range, Work, stage_range};

@@ -1,0 +1,182 @@
+// The node: two logs on a disk, and what is kept of them in memory.
+ghost use Rattle.std.specs.Prelude.{◌≡◌, ◌⊎◌, ◌<◌, ◌≤◌, ℕ, length, Some, None, IfOk, IfErr, OnOk, OnErr, IsErrOf, MatchResult, slice_get};
+ghost use Rattle.std.specs.Option.{option_copied};
+ghost use Rattle.gl_base.specs.Counts.{HasCause};
+ghost use Rattle.gl_outside.specs.Disk.{Image, Tells};
+ghost use Rattle.gl_gatelog.specs.declared.kind.Log.{Log};
+ghost use Rattle.gl_gatelog.specs.Log.{area_of};
+ghost use Rattle.gl_gatelog.specs.Stand.{IsEmptyBehind};
+ghost use Rattle.gl_node.specs.Arrivals.{arrival_of, arrival_events};
+ghost use Rattle.gl_node.specs.Calls.{HasNodeCause};
+ghost use Rattle.gl_node.specs.Node.{IsRunning, IsStoppedAt, Keeps, NodeOn, NodeReady};
+ghost use Rattle.gl_node.specs.Standing.{AreOptions, IsDamaged, StandsFor, empty_base};
+ghost use Rattle.gl_node.specs.State.{State, commit_count, opened, outcomes, state_after};
+
+use crate::answer::{Arrival, Claimed, Finished};
+use crate::config::Config;
+use crate::entering::message_of;
+use crate::fault::{NodeFault, OpenFault};
+use crate::mark::Claim;
+use crate::opening::open_log;
+use crate::work::Work;
+use gl_fields::{Entry, Outcome};
+use gl_gatelog::{GateLog, Log};
+use gl_outside::Disk;
+use std::alloc::Global;
+
+// How many bytes a payload has at most.
+const MAX_PAYLOAD: usize = 1_048_576;
+
+/// The sizes of a store.
+#[derive(Clone, Copy, Debug, PartialEq, Eq)]
+pub struct Options {
+    /// At which size of an area a log goes on in the next one, in bytes: 4,096 to 2^30. A log that
+    /// has a batch keeps the size that it recorded.
+    pub segment: u64,
+    /// How many bytes of batches the journal takes: 4,096 to 2^40.
+    pub journal_limit: u64,
+    /// How many bytes of batches the index log takes: 4,096 to 2^42.
+    pub index_limit: u64,
+}
+
+/// A journal, its outcomes as far as they are committed, and the claims between the two.
+#[derive(Drop)]
+pub struct Node {
+    pub(crate) alloc: Global,
+    pub(crate) journal: GateLog,
+    pub(crate) index: GateLog,
+    pub(crate) config: Config,
+    pub(crate) entries: Vec<Entry>,
+    pub(crate) outcomes: Vec<Outcome>,
+    pub(crate) held: Vec<Claim>,
+    pub(crate) waiting: Vec<Work>,
+    /// The least position that was never claimed.
+    pub(crate) next: u64,
+    /// The disk's count at the fault that stopped the node.
+    pub(crate) stopped: Option<u64>,
+}
+
+impl Node {
+    /// Opens an empty store: begins both logs, the journal first.
+    ///
+    /// `Damaged` comes exactly where the first area of a log holds more than one byte, the journal
+    /// looked at first: a store that holds something can't be opened yet. After an error nothing is
+    /// lost that the disk held.
+    pub fn open<D: Disk>(alloc: Global, disk: &mut D, options: Options) -> Result<Node, OpenFault>
+        requires { AreOptions options }
+        // Whatever the disk tells, the node keeps the state of an empty store.
+        ensures kept { IfOk result (λ node. Keeps node (opened (empty_base options)) × IsRunning node) }
+        ensures ready { Tells (D.state disk.old) → IfOk result (λ node. NodeReady node (D.state disk.new)) }
+        // It stands on the disk, where all areas behind the first of each log are empty.
+        ensures stands { Tells (D.state disk.old) → IsEmptyBehind Log.Journal (D.state disk.old) → IsEmptyBehind Log.Index (D.state disk.old)
+            → IfOk result (λ node. NodeOn node (D.state disk.new)) }
+        ensures damaged { Tells (D.state disk.old) → (log : Log) (area at : ℕ) → IsErrOf result (OpenFault.Damaged log area at) → IsDamaged (D.state disk.old).reads log area at }
+        // A damaged store isn't opened.
+        ensures refused { Tells (D.state disk.old) → (log : Log) (area at : ℕ) → IsDamaged (D.state disk.old).reads log area at
+            → MatchResult result (λ _. ⊥) (λ e. (e ≡ OpenFault.Damaged log area at) ⊎ (e ≡ OpenFault.DiskFault) ⊎ (e ≡ OpenFault.OutOfMemory)) }
+        ensures head { (log : Log) (area at : ℕ) → IsErrOf result (OpenFault.Damaged log area at) → (area ≡ area_of log 0) × (at ≡ 0) }
+        ensures faults { HasCause OpenFault.DiskFault (D.faults disk.old) (D.faults disk.new) result }
+        ensures tells { (D.state disk.new).tells ≡ (D.state disk.old).tells }
+    {
+        let config = Config::initial(alloc)?;
+        let journal = open_log(
+            alloc,
+            disk,
+            Log::Journal,
+            options.segment,
+            options.journal_limit,
+        )?;
+        let index = open_log(
+            alloc,
+            disk,
+            Log::Index,
+            options.segment,
+            options.index_limit,
+        )?;
+        Ok(Node {
+            alloc,
+            journal,
+            index,
+            config,
+            entries: Vec::new(alloc),
+            outcomes: Vec::new(alloc),
+            held: Vec::new(alloc),
+            waiting: Vec::new(alloc),
+            next: 0,
+            stopped: None,
+        })
+    }
+
+    /// Journals a payload that came as one datagram: it is an entry, and on the disk, once this
+    /// answers `Journalled`. The moment is in milliseconds since 1970, at most 253,402,300,799,999;
+    /// the peer has 1 to 255 bytes.
+    ///
+    /// The refusals come in this order: `UnknownInput`, `Empty`, `FrameTooLong`, `JournalFull`. A
+    /// refusal, and want of memory, change nothing.
+    pub fn datagram<D: Disk>(
+        &mut self,
+        disk: &mut D,
+        moment: u64,
+        input: &str,
+        peer: &str,
+        bytes: &[u8],
+    ) -> Result<Arrival, NodeFault>
+        requires moment { moment ≤ 253402300799999 }
+        requires some_peer { 0 < length peer.now }
+        requires short_peer { length peer.now ≤ 255 }
+        requires keeps { (s : State) × Keeps self.old s }
+        requires ready { Tells (D.state disk.old) → IsRunning self.old → NodeReady self.old (D.state disk.old) }
+        // Whatever the disk tells: by each state that the node keeps.
+        ensures answer { IfOk result (λ arrival. (s : State) → Keeps self.old s → (arrival ≡ arrival_of s moment input.now peer.now bytes.now)
+            × Keeps self.new (state_after s (arrival_events s moment input.now peer.now bytes.now))) }
+        ensures refused { OnErr result ((s : State) → Keeps self.old s → Keeps self.new s) }
+        // Once it answers, the entry is in each image that a crash may leave.
+        ensures ready { Tells (D.state disk.old) → IsRunning self.new → NodeReady self.new (D.state disk.new) }
+        ensures stands { Tells (D.state disk.old) → IsRunning self.new → NodeOn self.old (D.state disk.old) → NodeOn self.new (D.state disk.new) }
+        ensures stopped { (faults : ℕ) → IsStoppedAt self.old faults → (result ≡ Err (NodeFault.Stopped faults)) × (self.new ≡ self.old) × (disk.new ≡ disk.old) }
+        ensures faults { HasNodeCause self.old self.new (D.faults disk.old) (D.faults disk.new) result }
+        ensures tells { (D.state disk.new).tells ≡ (D.state disk.old).tells }
+    {
+        if let Some(faults) = self.stopped {
+            return Err(NodeFault::Stopped { faults });
+        }
+        if !self.config.knows(input) {
+            return Ok(Arrival::UnknownInput);
+        }
+        if bytes.is_empty() {
+            return Ok(Arrival::Empty);
+        }
+        if bytes.len() > MAX_PAYLOAD {
+            return Ok(Arrival::FrameTooLong);
+        }
+        let version = self.config.version;
+        let message = message_of(self.alloc, version, moment, input, peer, bytes)?;
+        self.enter(disk, Entry::Message(message))
+    }
+
+    /// The outcome of a committed position, and `None` exactly elsewhere.
+    pub fn outcome(&self, position: u64) -> Option<&Outcome>
+        ensures { (s : State) → Keeps self.now s → option_copied result ≡ slice_get (outcomes s) position }
+    {
+        self.outcomes.get(position as usize)
+    }
+
+    /// How many entries the journal has.
+    pub fn journalled(&self) -> u64
+        ensures { (s : State) → Keeps self.now s → result ≡ length s.journal }
+    {
+        self.entries.len() as u64
+    }
+
+    /// How many positions are committed: all below this one.
+    pub fn committed(&self) -> u64
+        ensures { (s : State) → Keeps self.now s → (result ≡ commit_count s) × (result ≡ length (outcomes s)) }
+    {
+        self.outcomes.len() as u64
+    }
+}
+
+/// What a node keeps, each image shows that a crash may leave of a disk on which it stands.
+pub fn law_images_show_the_state<D: Disk>(node: &Node, disk: &D)
+    ensures { (s : State) → Keeps node.now s → NodeOn node.now (D.state disk.now) → (c : Image) → (D.state disk.now).may_leave c → StandsFor c s }
+{}
