@@ -1,0 +1,99 @@
+-- A line of a script is one that a node takes.
+use Rattle.std.specs.Prelude.{◌≡◌, ℕ, ◌+◌, ◌-◌, ◌<◌, ◌≤◌, Bool, true, false, ◌&&◌, List, [], ◌∷◌, length, nat_le, nat_lt, max, Option, Some, None, IfSome, ⊤, if◌then◌else◌, codes}
+use Rattle.std.specs.List.{list_all, join_with_byte}
+use Rattle.std.specs.Option.{option_map, option_and_then}
+use Rattle.std.specs.Int.{is_in_range}
+use Rattle.std.specs.Str.{bytes_eq}
+use Rattle.std.proofs.Common.{refl, ap, sym, subst, arith}
+use Rattle.std.proofs.lemmas.Bool.{false≢true}
+use Rattle.std.proofs.lemmas.Bool.Decides.{nat_tests}
+use Rattle.percent_encoding.specs.Percent.{percent_decode}
+use Rattle.gl_cli.specs.declared.line.Line.{Line}
+use Rattle.gl_cli.specs.declared.line.Line.TheVariants.{Blank, At, Udp, Claim, Finish, Listing}
+use Rattle.gl_cli.specs.Script.{is_number, digits_value, number_in, is_name, last_moment, workers, words_of, at_line, udp_line, claim_line, finish_line, list_line, line_of_words, is_blank, line_of, moment_in}
+use Rattle.gl_cli.specs.Sessions.{IsFit}
+
+abbrev IfFit : Option Line → Type 0
+IfFit o = IfSome o IsFit
+
+if_fits : (b : Bool) (x y : Option Line) → IfFit x → IfFit y → IfFit (if b then x else y)
+if_fits true x y p q = p
+if_fits false x y p q = q
+
+if_number : (a b c : Bool) (n least most : ℕ) → (b ≡ true → least ≤ n) → (c ≡ true → n ≤ most) → IfSome (if (a && b) && c then Some n else None) (λ (m : ℕ). (least ≤ m) × (m ≤ most))
+if_number true true true n least most p q = (p refl, q refl)
+if_number true true false n least most p q = tt
+if_number true false c n least most p q = tt
+if_number false b c n least most p q = tt
+
+number_fits : (least most : ℕ) (text : List ℕ) → IfSome (number_in least most text) (λ (n : ℕ). (least ≤ n) × (n ≤ most))
+number_fits least most text = if_number (is_number text) (nat_le least (digits_value text)) (nat_le (digits_value text) most) (digits_value text) least most (λ e. grind (arith, nat_tests)) (λ e. grind (arith, nat_tests))
+
+map_fits : (o : Option ℕ) (f : ℕ → Line) (P : ℕ → Type 0) → IfSome o P → ((n : ℕ) → P n → IsFit (f n)) → IfFit (option_map f o)
+map_fits None f P p k = tt
+map_fits (Some n) f P p k = k n p
+
+at_fits : (rest : List (List ℕ)) → IfFit (at_line rest)
+at_fits [] = tt
+at_fits (moment ∷ []) = map_fits (number_in 0 last_moment moment) (λ n. At n) (λ n. (0 ≤ n) × (n ≤ last_moment)) (number_fits 0 last_moment moment) (λ n p. p.1)
+at_fits (moment ∷ next ∷ rest) = tt
+
+if_name : (a b c : Bool) (n most : ℕ) → (a ≡ true → 0 < n) → (b ≡ true → n ≤ most) → (a && b) && c ≡ true → (0 < n) × (n ≤ most)
+if_name true true c n most p q e = (p refl, q refl)
+if_name true false c n most p q e = absurd (false≢true e)
+if_name false b c n most p q e = absurd (false≢true e)
+
+name_fits : (most : ℕ) (text : List ℕ) → is_name most text ≡ true → (0 < length text) × (length text ≤ most)
+name_fits most text e = if_name (nat_lt 0 (length text)) (nat_le (length text) most) (list_all (is_in_range 33 126) text) (length text) most (λ h. grind (arith, nat_tests)) (λ h. grind (arith, nat_tests)) e
+
+if_peer : (a b : Bool) (line : Line) → (b ≡ true → IsFit line) → IfFit (if a && b then Some line else None)
+if_peer true true line p = p refl
+if_peer true false line p = tt
+if_peer false b line p = tt
+
+udp_fits : (rest : List (List ℕ)) → IfFit (udp_line rest)
+udp_fits [] = tt
+udp_fits (input ∷ []) = tt
+udp_fits (input ∷ peer ∷ []) = tt
+udp_fits (input ∷ peer ∷ word ∷ words) = if_peer (is_name 64 input) (is_name 255 peer) (Udp input peer (percent_decode (join_with_byte 32 (word ∷ words)))) (λ e. name_fits 255 peer e)
+
+and_then_fits : (o : Option ℕ) (f : ℕ → Option Line) (P : ℕ → Type 0) → IfSome o P → ((n : ℕ) → P n → IfFit (f n)) → IfFit (option_and_then f o)
+and_then_fits None f P p k = tt
+and_then_fits (Some n) f P p k = k n p
+
+claim_fits : (rest : List (List ℕ)) → IfFit (claim_line rest)
+claim_fits [] = tt
+claim_fits (worker ∷ []) = tt
+claim_fits (worker ∷ limit ∷ []) =
+    and_then_fits (number_in 0 (workers - 1) worker) (λ w. option_map (λ n. Claim w n) (number_in 1 256 limit)) (λ n. (0 ≤ n) × (n ≤ workers - 1)) (number_fits 0 (workers - 1) worker)
+    (λ w p. map_fits (number_in 1 256 limit) (λ n. Claim w n) (λ n. (1 ≤ n) × (n ≤ 256)) (number_fits 1 256 limit) (λ n q. (omega (arith, p.1), q.0, q.1)))
+claim_fits (worker ∷ limit ∷ next ∷ rest) = tt
+
+finish_fits : (rest : List (List ℕ)) → IfFit (finish_line rest)
+finish_fits [] = tt
+finish_fits (worker ∷ []) = map_fits (number_in 0 (workers - 1) worker) (λ n. Finish n) (λ n. (0 ≤ n) × (n ≤ workers - 1)) (number_fits 0 (workers - 1) worker) (λ n p. omega (arith, p.1))
+finish_fits (worker ∷ next ∷ rest) = tt
+
+list_fits : (rest : List (List ℕ)) → IfFit (list_line rest)
+list_fits [] = tt
+list_fits (word ∷ rest) = tt
+
+words_fit : (words : List (List ℕ)) → IfFit (line_of_words words)
+words_fit [] = tt
+words_fit (word ∷ rest) =
+    if_fits (bytes_eq word (codes "at")) _ _ (at_fits rest)
+    (if_fits (bytes_eq word (codes "udp")) _ _ (udp_fits rest)
+    (if_fits (bytes_eq word (codes "claim")) _ _ (claim_fits rest)
+    (if_fits (bytes_eq word (codes "finish")) _ _ (finish_fits rest)
+    (if_fits (bytes_eq word (codes "list")) _ _ (list_fits rest) tt))))
+
+pub line_fits : (text : List ℕ) (line : Line) → line_of text ≡ Some line → IsFit line
+line_fits text line is = subst IfFit is (if_fits (is_blank text) (Some Blank) (line_of_words (words_of text)) tt (words_fit (words_of text)))
+
+pub moment_fits : (moment later : ℕ) (line : Line) → moment ≤ 253402300799999 → IsFit line → later ≡ max moment (moment_in line) → later ≤ 253402300799999
+moment_fits moment later Blank p fit is = omega (arith, p, is)
+moment_fits moment later (At next) p fit is = omega (arith, p, fit, is)
+moment_fits moment later (Udp input peer payload) p fit is = omega (arith, p, is)
+moment_fits moment later (Claim worker limit) p fit is = omega (arith, p, is)
+moment_fits moment later (Finish worker) p fit is = omega (arith, p, is)
+moment_fits moment later Listing p fit is = omega (arith, p, is)

@@ -1,0 +1,14 @@
+pub mod Causes
+pub mod Desks
+pub mod Exits
+pub mod Fits
+pub mod Lines
+pub mod Openings
+pub mod Printing
+pub mod Readings
+pub mod Rows
+pub mod Searches
+pub mod Sessions
+pub mod Sinks
+pub mod Turns
+pub mod Words

@@ -1,0 +1,96 @@
+-- How a session goes on.
+use Rattle.std.specs.Prelude.{◌≡◌, ◌↔◌, ℕ, suc, ◌+◌, ◌≤◌, false, List, [], ◌∷◌, ◌++◌, length, Option, Some, None, max, map, flat_map}
+use Rattle.std.specs.List.{fold}
+use Rattle.std.specs.Option.{option_map}
+use Rattle.std.proofs.Common.{refl, ◌∙◌, ap, sym, subst, append_assoc, arith, append-nil}
+use Rattle.std.proofs.lemmas.Grind.{flat_map-append}
+use Rattle.std.proofs.lemmas.List.Sums.{fold-append}
+use Rattle.std.proofs.lemmas.List.{map-append}
+use Rattle.std.specs.Io.KnownBytes.{Appends}
+use Rattle.gl_node.specs.State.{Base, State, Event, opened, state_after, happened}
+use Rattle.gl_cli.specs.declared.desk.Desk.{Desk}
+use Rattle.gl_cli.specs.declared.line.Line.{Line}
+use Rattle.gl_cli.specs.declared.line.Line.TheVariants.{Blank, At, Udp, Claim, Finish, Listing}
+use Rattle.gl_cli.specs.declared.reader.Next.TheVariants.{Line as Text}
+use Rattle.gl_cli.specs.Desk.{DeskKeeps}
+use Rattle.gl_cli.specs.Script.{lines_within, lines_run, bad_line, script_lines, moment_after, moment_in, line_of, read_then, number_behind}
+use Rattle.gl_cli.specs.Runs.{Turn, turns_of, turn_of, script_turns, all_events, all_text, turn_events, turn_text}
+use Rattle.gl_cli.specs.Reading.{GivesKnown}
+use Rattle.gl_cli.specs.Sessions.{Running, Answered, CutShort, DoesTurn, CutsTurn, turn_at, payload_turn}
+use Rattle.gl_cli.proofs.Sinks.{Appends-more}
+
+-- what a line gives depends on the lines before it by the moment alone
+pub turn_same : (past : List Line) (s : State) (moment : ℕ) (line : Line) → moment ≡ moment_after past → turn_at moment line s ≡ turn_of past s false line
+turn_same past s moment Blank e = refl
+turn_same past s moment (At next) e = refl
+turn_same past s moment (Udp input peer payload) e = ap (λ m. payload_turn m input peer payload s) e
+turn_same past s moment (Claim worker limit) e = refl
+turn_same past s moment (Finish worker) e = refl
+turn_same past s moment Listing e = refl
+
+pub does_line : (old new : Desk) (before now : Option (List ℕ)) (moment : ℕ) (line : Line) → DoesTurn (turn_at moment line) old new before now
+    → (s : State) (past : List Line) → DeskKeeps old s → moment ≡ moment_after past
+    → DeskKeeps new (state_after s (turn_events (turn_of past s false line))) × Answered (turn_of past s false line) before now
+does_line old new before now moment line does s past kept e =
+    subst (λ (t : Turn). DeskKeeps new (state_after s (turn_events t)) × Answered t before now) (turn_same past s moment line e) (does s kept)
+
+pub cuts_line : (old : Desk) (before now : Option (List ℕ)) (moment : ℕ) (line : Line) → CutsTurn (turn_at moment line) old before now
+    → (s : State) (past : List Line) → DeskKeeps old s → moment ≡ moment_after past → CutShort (turn_of past s false line) before now
+cuts_line old before now moment line cuts s past kept e = subst (λ (t : Turn). CutShort t before now) (turn_same past s moment line e) (cuts s kept)
+
+pub moment_after-more : (past : List Line) (line : Line) → moment_after (past ++ line ∷ []) ≡ max (moment_after past) (moment_in line)
+moment_after-more past line =
+    ap (λ ms. fold max 0 ms) (map-append moment_in past (line ∷ []))
+    ∙ fold-append max 0 (map moment_in past) (moment_in line ∷ [])
+
+pub state_after-more : (s : State) (xs ys : List Event) → state_after (state_after s xs) ys ≡ state_after s (xs ++ ys)
+state_after-more s xs ys = sym (fold-append happened s xs ys)
+
+pub all_events-more : (turns : List Turn) (turn : Turn) → all_events (turns ++ turn ∷ []) ≡ all_events turns ++ turn_events turn
+all_events-more turns turn = flat_map-append turn_events turns (turn ∷ []) ∙ ap (λ es. all_events turns ++ es) (append-nil (turn_events turn))
+
+pub all_text-more : (turns : List Turn) (turn : Turn) → all_text (turns ++ turn ∷ []) ≡ all_text turns ++ turn_text turn
+all_text-more turns turn = flat_map-append turn_text turns (turn ∷ []) ∙ ap (λ es. all_text turns ++ es) (append-nil (turn_text turn))
+
+-- the lines ahead begin with a line that is read
+pub turns_of-line : (past : List Line) (s : State) (lines : List (List ℕ)) (text : List ℕ) (rest : List (List ℕ)) (line : Line)
+    → lines ≡ text ∷ rest → line_of text ≡ Some line
+    → turns_of past s [] (lines_run lines)
+    ≡ turn_of past s false line ∷ turns_of (past ++ line ∷ []) (state_after s (turn_events (turn_of past s false line))) [] (lines_run rest)
+turns_of-line past s lines text rest line e f =
+    ap (λ ls. turns_of past s [] (lines_run ls)) e ∙ ap (λ o. turns_of past s [] (read_then o (lines_run rest))) f
+
+pub bad_line-more : (number : ℕ) (later : Option ℕ) → option_map (λ k. number + k) (option_map suc later) ≡ option_map (λ k. number + 1 + k) later
+bad_line-more number None = refl
+bad_line-more number (Some k) = let n : number + suc k ≡ number + 1 + k = omega arith in ap (λ (x : ℕ). Some x) n
+
+pub running_more : (base : Base) (script : List ℕ) (before mid now : Option (List ℕ)) (s : State) (rest : Option (List ℕ))
+    (budget left number moment later : ℕ) (text : List ℕ) (line : Line)
+    {ahead : Option (List ℕ)} (r : Running base script before mid s ahead budget number moment)
+    → GivesKnown (Text text) (Some r.text) budget rest left
+    → line_of text ≡ Some line
+    → Answered (turn_of r.past s false line) mid now
+    → later ≡ max moment (moment_in line)
+    → Running base script before now (state_after s (turn_events (turn_of r.past s false line))) rest left (number + 1) later
+running_more base script before mid now s None budget left number moment later text line r g e gained m = absurd g
+running_more base script before mid now s (Some rest) budget left number moment later text line r g e gained m =
+    let turn : Turn = turn_of r.past s false line in
+    let after : State = state_after s (turn_events turn) in
+    record {
+      turns = r.turns ++ turn ∷ [];
+      past = r.past ++ line ∷ [];
+      text = rest;
+      ahead_is = refl;
+      all = r.all
+          ∙ ap (λ ts. r.turns ++ ts) (turns_of-line r.past s (lines_within budget r.text) text (lines_within left rest) line g.0 e)
+          ∙ sym (append_assoc r.turns (turn ∷ []) (turns_of (r.past ++ line ∷ []) after [] (lines_run (lines_within left rest))));
+      state_is = ap (λ q. state_after q (turn_events turn)) r.state_is
+          ∙ state_after-more (opened base) (all_events r.turns) (turn_events turn)
+          ∙ ap (state_after (opened base)) (sym (all_events-more r.turns turn));
+      moment_is = m ∙ ap (λ n. max n (moment_in line)) r.moment_is ∙ sym (moment_after-more r.past line);
+      bad = r.bad ∙ ap (λ ls. option_map (λ k. number + k) (bad_line ls)) g.0
+          ∙ ap (λ o. option_map (λ k. number + k) (number_behind o (bad_line (lines_within left rest)))) e
+          ∙ bad_line-more number (bad_line (lines_within left rest));
+      long = ((λ p. g.1.0 (r.long.0 p)), (λ p. r.long.1 (g.1.1 p)));
+      gained = subst (Appends before now) (sym (all_text-more r.turns turn)) (Appends-more before mid now (all_text r.turns) (turn_text turn) r.gained gained);
+    }

@@ -1,0 +1,121 @@
+-- Words and numbers.
+use Rattle.std.specs.Prelude.{◌≡◌, ◌≢◌, ℕ, suc, ◌+◌, ◌-◌, ◌*◌, ◌<◌, ◌≤◌, Bool, true, false, ◌&&◌, List, [], ◌∷◌, ◌++◌, length, take, drop, All, ◌==◌, nat_le, if◌then◌else◌, Option, Some, None}
+use Rattle.std.specs.List.{fold, list_all, join_with_byte}
+use Rattle.std.proofs.Common.{refl, ◌∙◌, ap, sym, subst, arith, inl, inr, get_or, add-one}
+use Rattle.std.proofs.lemmas.Grind.{common_steps}
+use Rattle.std.proofs.lemmas.Bool.Decides.{eqb_tells, nat_tests}
+use Rattle.std.proofs.lemmas.Bool.{lt-leb, cases_lt}
+use Rattle.std.proofs.lemmas.List.{take-append-drop}
+use Rattle.std.proofs.lemmas.List.Splits.{slice_split_none, slice_split_at, join_with_byte-slice_split, length-slice_split}
+use Rattle.std.proofs.lemmas.List.Sums.{fold-append}
+use Rattle.std.proofs.Math.Seq.{drop-cons}
+use Rattle.gl_cli.specs.Script.{words_of, digits_value, is_number, number_in, at_line, udp_line, claim_line, finish_line, list_line, is_name}
+use Rattle.gl_cli.specs.declared.line.Line.{Line}
+use Rattle.gl_cli.specs.declared.line.Line.TheVariants.{Udp}
+use Rattle.percent_encoding.specs.Percent.{percent_decode}
+use Rattle.std.specs.Int.{is_in_range}
+use Rattle.std.specs.Str.{IsUtf8}
+use Rattle.std.specs.List.{AllPass}
+use Rattle.std.proofs.lemmas.Str.{IsUtf8-from_ascii}
+use Rattle.std.proofs.lemmas.List.Sums.{AllPass-from_list_all}
+use Rattle.gl_cli.specs.Parsing.{IsFirstAt}
+use Rattle.gl_cli.proofs.Sinks.{slice_rest}
+
+pub is_byte_not : (byte : ℕ) (bytes : List ℕ) → All (λ b. b ≢ byte) bytes → All (λ b. (b == byte) ≡ false) bytes
+is_byte_not byte bytes h = λ k d within. elim (eqb_tells (get_or bytes k d) byte) [ inl p ↦ absurd (h k d within p.1) | inr q ↦ q.0 ]
+
+pub at_byte : (bytes : List ℕ) (byte place : ℕ) → IsFirstAt bytes byte place → bytes ≡ take place bytes ++ byte ∷ drop (place + 1) bytes
+at_byte bytes byte place h =
+    sym (take-append-drop place bytes)
+    ∙ ap (λ t. take place bytes ++ t) (drop-cons bytes place 0 h.inside)
+    ∙ ap (λ b. take place bytes ++ b ∷ drop (suc place) bytes) h.is
+    ∙ ap (λ n. take place bytes ++ byte ∷ drop n bytes) (sym (add-one place))
+
+pub words_of-at : (text : List ℕ) (place : ℕ) → IsFirstAt text 32 place
+    → words_of text ≡ take place text ∷ words_of (take (length text - (place + 1)) (drop (place + 1) text))
+words_of-at text place h =
+    ap words_of (at_byte text 32 place h)
+    ∙ slice_split_at (λ b. b == 32) (take place text) 32 (drop (place + 1) text) (is_byte_not 32 (take place text) h.first) refl
+    ∙ ap (λ t. take place text ∷ words_of t) (sym (slice_rest (place + 1) text))
+
+pub words_of-none : (text : List ℕ) → All (λ b. b ≢ 32) text → words_of text ≡ text ∷ []
+words_of-none text h = slice_split_none (λ b. b == 32) text (is_byte_not 32 text h)
+
+-- a word more makes a number no smaller
+pub digits_value-more : (n : ℕ) (text : List ℕ) → n ≤ fold (λ m digit. 10 * m + (digit - 48)) n text
+digits_value-more n [] = omega arith
+digits_value-more n (digit ∷ text) = omega (arith, digits_value-more (10 * n + (digit - 48)) text)
+
+pub digits_value-push : (text : List ℕ) (digit : ℕ) → digits_value (text ++ digit ∷ []) ≡ 10 * digits_value text + (digit - 48)
+digits_value-push text digit = fold-append (λ m d. 10 * m + (d - 48)) 0 text (digit ∷ [])
+
+pub digits_value-append : (text more : List ℕ) → digits_value text ≤ digits_value (text ++ more)
+digits_value-append text more = rw (fold-append (λ m d. 10 * m + (d - 48)) 0 text more) (digits_value-more (digits_value text) more)
+
+pub digits_value-over : (text : List ℕ) (i : ℕ) → i < length text → 10 * digits_value (take i text) + (get_or text i 0 - 48) ≤ digits_value text
+digits_value-over text i h =
+    let e : take (i + 1) text ≡ take i text ++ get_or text i 0 ∷ [] = grind (arith, common_steps) in
+    let p : digits_value (take (i + 1) text) ≡ 10 * digits_value (take i text) + (get_or text i 0 - 48)
+    = ap digits_value e ∙ digits_value-push (take i text) (get_or text i 0) in
+    let q : digits_value (take (i + 1) text) ≤ digits_value text
+    = subst (λ (t : List ℕ). digits_value (take (i + 1) text) ≤ digits_value t) (take-append-drop (i + 1) text) (digits_value-append (take (i + 1) text) (drop (i + 1) text)) in
+    omega (arith, p, q)
+
+pub and_false : (b : Bool) (x : Option ℕ) → (if b && false then x else None) ≡ None
+and_false true x = refl
+and_false false x = refl
+
+pub number_in-large : (least most : ℕ) (text : List ℕ) → most < digits_value text → None ≡ number_in least most text
+number_in-large least most text h = sym
+    (ap (λ c. if (is_number text && nat_le least (digits_value text)) && c then Some (digits_value text) else None) (lt-leb (digits_value text) most h)
+    ∙ and_false (is_number text && nat_le least (digits_value text)) (Some (digits_value text)))
+
+pub words_of-some : (text : List ℕ) → 0 < length (words_of text)
+words_of-some text = rw (length-slice_split (λ b. b == 32) text) (omega arith)
+
+pub at_line-more : (word : List ℕ) (rest : List (List ℕ)) → 0 < length rest → None ≡ at_line (word ∷ rest)
+at_line-more word [] h = absurd (omega (arith, h))
+at_line-more word (next ∷ rest) h = refl
+
+pub printable_below : (b : ℕ) → is_in_range 33 126 b ≡ true → b < 128
+printable_below b h = grind (arith, nat_tests)
+
+pub IsUtf8-printable : (word : List ℕ) → list_all (is_in_range 33 126) word ≡ true → IsUtf8 word
+IsUtf8-printable word h =
+    let all : AllPass (is_in_range 33 126) word = AllPass-from_list_all (is_in_range 33 126) word h in
+    IsUtf8-from_ascii word (λ i. elim (cases_lt i (length word)) [
+      | inl inside ↦ printable_below (get_or word i 0) (all i 0 inside)
+      | inr outside ↦ grind (arith, common_steps)
+    ])
+
+pub udp_line-short : (words : List (List ℕ)) → length words < 3 → None ≡ udp_line words
+udp_line-short [] h = refl
+udp_line-short (a ∷ []) h = refl
+udp_line-short (a ∷ b ∷ []) h = refl
+udp_line-short (a ∷ b ∷ c ∷ words) h = absurd (omega (arith, h))
+
+pub udp_line-some : (a b : List ℕ) (words : List (List ℕ)) → 0 < length words
+    → udp_line (a ∷ b ∷ words) ≡ (if is_name 64 a && is_name 255 b then Some (Udp a b (percent_decode (join_with_byte 32 words))) else None)
+udp_line-some a b [] h = absurd (omega (arith, h))
+udp_line-some a b (c ∷ words) h = refl
+
+pub udp_line-words : (words : List (List ℕ)) (a b c : List ℕ) → words ≡ a ∷ b ∷ words_of c
+    → udp_line words ≡ (if is_name 64 a && is_name 255 b then Some (Udp a b (percent_decode c)) else None)
+udp_line-words words a b c e =
+    ap udp_line e ∙ udp_line-some a b (words_of c) (words_of-some c)
+    ∙ ap (λ p. if is_name 64 a && is_name 255 b then Some (Udp a b (percent_decode p)) else None) (join_with_byte-slice_split 32 c)
+
+pub if_both : (a b : Bool) (x : Option Line) → a ≡ true → b ≡ true → (if a && b then x else None) ≡ x
+if_both a b x p q = ap (λ c. if c && b then x else None) p ∙ ap (λ c. if c then x else None) q
+
+pub finish_line-more : (word : List ℕ) (rest : List (List ℕ)) → 0 < length rest → None ≡ finish_line (word ∷ rest)
+finish_line-more word [] h = absurd (omega (arith, h))
+finish_line-more word (next ∷ rest) h = refl
+
+pub claim_line-more : (one other : List ℕ) (rest : List (List ℕ)) → 0 < length rest → None ≡ claim_line (one ∷ other ∷ rest)
+claim_line-more one other [] h = absurd (omega (arith, h))
+claim_line-more one other (next ∷ rest) h = refl
+
+pub list_line-more : (rest : List (List ℕ)) → 0 < length rest → None ≡ list_line rest
+list_line-more [] h = absurd (omega (arith, h))
+list_line-more (next ∷ rest) h = refl

@@ -1,0 +1,5 @@
+use Rattle.std.proofs.Common.{append_assoc, rules}
+use Rattle.gl_cli.proofs.print.arrival_text.Goals as goal
+
+pub returns-in-JournalFull : goal.returns-in-JournalFull
+returns-in-JournalFull c = rw c.in-JournalFull.is (search (rules, append_assoc))

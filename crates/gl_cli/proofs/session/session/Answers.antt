@@ -1,0 +1,122 @@
+use Rattle.gl_outside.specs.declared.fault.Outside.TheVariants.{Failed}
+use Rattle.gl_cli.specs.declared.status.Status.TheVariants.{SinkFault, DiskFault}
+use Rattle.gl_cli.proofs.Desks.{ok_is_no_error}
+use Rattle.std.proofs.Common.{Bool, IsTrue, arith, rules, refl, sym, ap, subst, ◌∙◌, ◌<◌, ℕ}
+use Rattle.std.proofs.lemmas.Bool.{false≢true}
+use Rattle.gl_node.specs.State.{state_after}
+use Rattle.gl_cli.specs.Desk.{DeskKeeps}
+use Rattle.gl_cli.specs.Runs.{turn_events}
+use Rattle.gl_cli.specs.Script.{line_of}
+use Rattle.gl_cli.specs.Sessions.{turn_at}
+use Rattle.gl_cli.proofs.Causes.{causes_none, causes_source, causes_line, causes_sink, line_other, line_runs, sink_other, sink_runs, source_other, source_runs}
+use Rattle.gl_cli.proofs.Exits.{ended_other, ended_long, ended_bad, ended_cut, ended_done, ended_done_cut, ended_shows, running_init, running_next, read_first, reading_more, tells_end, tells_long, tells_bad, tells_other}
+use Rattle.gl_cli.proofs.Fits.{line_fits, moment_fits}
+use Rattle.gl_cli.proofs.Sessions.{does_line, cuts_line}
+use Rattle.gl_cli.proofs.session.session.Goals as goal
+
+pub lines-init : goal.lines-init
+lines-init g c = record {
+  small = omega (arith, c.new-reader.ensures.budget);
+  ended = λ e. absurd (false≢true (sym c.new-reader.ensures.begun ∙ e));
+  reading = read_first (g.S.Source.left c.args.source.now) _ _ c.new-reader.ensures.budget c.new-reader.ensures.empty;
+  running = λ base h. running_init (g.S.Source.left c.args.source.now) base _ (DeskKeeps c.args.desk.now) _ _ h c.new-reader.ensures.budget c.new-reader.ensures.empty;
+  keeps = c.requires.keeps;
+  moment_fits = omega arith;
+  ready = c.requires.ready;
+  stands = λ tells stands. stands;
+  tells = refl;
+  source = refl;
+  sink = refl;
+  disk = refl;
+}
+
+pub returns-in-Err-clause-end : goal.returns-in-Err-clause-end
+returns-in-Err-clause-end g c = λ base h.
+    ended_other _ _ _ _ (DeskKeeps c.lines.desk) _ _ _ _ (c.lines.invariant.running base h) _ (source_other c.in-Err.fault _ c.source_status.ensures)
+
+pub returns-in-Ok-TooLong-clause-end : goal.returns-in-Ok-TooLong-clause-end
+returns-in-Ok-TooLong-clause-end g c = λ base h.
+    ended_long _ _ _ _ (DeskKeeps c.lines.desk) _ _ _ _ (c.lines.invariant.running base h) _ _
+    (rw c.in-Ok-TooLong.field-0-is at c.in-Ok-TooLong.ensures.given)
+
+pub returns-in-Err-line_of-clause-end : goal.returns-in-Err-line_of-clause-end
+returns-in-Err-line_of-clause-end g c = λ base h.
+    ended_other _ _ _ _ (DeskKeeps c.lines.desk) _ _ _ _ (c.lines.invariant.running base h) _ tt
+
+pub returns-in-Ok-None-clause-end : goal.returns-in-Ok-None-clause-end
+returns-in-Ok-None-clause-end g c = λ base h.
+    ended_bad _ _ _ _ (DeskKeeps c.lines.desk) _ _ _ _ (c.lines.invariant.running base h) _ _ c.in-Ok-Line.text
+    (rw c.in-Ok-Line.field-0-is at c.in-Ok-Line.ensures.given)
+    (ap line_of (sym c.as_slice.ensures) ∙ sym c.in-Ok-None.ensures ∙ c.in-Ok-None.field-0-is) _
+
+pub returns-in-Err-answer_line-clause-end : goal.returns-in-Err-answer_line-clause-end
+returns-in-Err-answer_line-clause-end g c = λ base h.
+    ended_cut _ _ _ _ (DeskKeeps c.lines.desk) _ _ _ _ (c.lines.invariant.running base h) _
+    _ _ c.in-Ok-Line.text c.in-Ok-Some.line
+    (rw c.in-Ok-Line.field-0-is at c.in-Ok-Line.ensures.given)
+    (ap line_of (sym c.as_slice.ensures) ∙ sym c.in-Ok-Some.ensures ∙ c.in-Ok-Some.field-0-is)
+    (cuts_line c.lines.desk _ _ c.lines.moment c.in-Ok-Some.line c.in-Err-answer_line.ensures.cut) _ (line_other _ c.in-Err-answer_line.ensures.kind)
+
+pub lines-preserved : goal.lines-preserved
+lines-preserved g c = record {
+  small = let h : c.next_line.new.self.budget < c.lines.reader.budget = (rw c.in-Ok-Line.field-0-is at c.in-Ok-Line.ensures.shorter) tt in omega (arith, h, c.lines.invariant.small);
+  ended = c.in-Ok-Line.ensures.ended;
+  reading = reading_more _ _ _ _ c.lines.invariant.reading _ _ c.in-Ok-Line.text c.in-Ok-Some.line
+      (rw c.in-Ok-Line.field-0-is at c.in-Ok-Line.ensures.given)
+      (ap line_of (sym c.as_slice.ensures) ∙ sym c.in-Ok-Some.ensures ∙ c.in-Ok-Some.field-0-is);
+  running = λ base h. running_next _ _ _ _ (DeskKeeps c.lines.desk) _ _ _ _ (c.lines.invariant.running base h) (DeskKeeps c.answer_line.new.desk) _ _ _ _ c.in-Ok-Line.text c.in-Ok-Some.line
+      (rw c.in-Ok-Line.field-0-is at c.in-Ok-Line.ensures.given)
+      (ap line_of (sym c.as_slice.ensures) ∙ sym c.in-Ok-Some.ensures ∙ c.in-Ok-Some.field-0-is)
+      (does_line c.lines.desk c.answer_line.new.desk _ _ c.lines.moment c.in-Ok-Some.line c.in-Ok.ensures.answered) c.moment_with-moment.ensures;
+  keeps = let kept = c.lines.invariant.keeps in (
+    state_after kept.0 (turn_events (turn_at c.lines.moment c.in-Ok-Some.line kept.0)),
+    (c.in-Ok.ensures.answered kept.0 kept.1).0,
+  );
+  moment_fits = moment_fits c.lines.moment _ c.in-Ok-Some.line c.lines.invariant.moment_fits
+      (line_fits c.in-Ok-Line.text c.in-Ok-Some.line (ap line_of (sym c.as_slice.ensures) ∙ sym c.in-Ok-Some.ensures ∙ c.in-Ok-Some.field-0-is))
+      c.moment_with-moment.ensures;
+  ready = λ tells. c.in-Ok.ensures.ready (subst (λ (b : Bool). IsTrue b) (sym c.lines.invariant.tells) tells);
+  stands = λ tells on. c.in-Ok.ensures.stands (subst (λ (b : Bool). IsTrue b) (sym c.lines.invariant.tells) tells) (c.lines.invariant.stands tells on);
+  tells = c.answer_line.ensures.tells ∙ c.lines.invariant.tells;
+  source = c.in-Ok-Line.ensures.cause.steady (ok_is_no_error c.in-Ok-Line.field-0 Failed) ∙ c.lines.invariant.source;
+  sink = c.in-Ok.ensures.sink_cause.steady (ok_is_no_error c.in-Ok.field-0 SinkFault) ∙ c.lines.invariant.sink;
+  disk = c.in-Ok.ensures.disk_cause.steady (ok_is_no_error c.in-Ok.field-0 DiskFault) ∙ c.lines.invariant.disk;
+}
+
+pub returns-in-Ok-TooLong-clause-script : goal.returns-in-Ok-TooLong-clause-script
+returns-in-Ok-TooLong-clause-script g c =
+    tells_long _ _ _ _ c.lines.invariant.reading _ _ (rw c.in-Ok-TooLong.field-0-is at c.in-Ok-TooLong.ensures.given)
+
+pub answer_line-requires-clause-fit : goal.answer_line-requires-clause-fit
+answer_line-requires-clause-fit g c =
+    line_fits c.in-Ok-Line.text c.in-Ok-Some.line (ap line_of (sym c.as_slice.ensures) ∙ sym c.in-Ok-Some.ensures ∙ c.in-Ok-Some.field-0-is)
+
+pub returns-in-Err-answer_line-clause-script : goal.returns-in-Err-answer_line-clause-script
+returns-in-Err-answer_line-clause-script g c =
+    tells_other (g.S.Source.left c.args.source.now) c.in-Err-answer_line.status (line_other c.in-Err-answer_line.status c.in-Err-answer_line.ensures.kind)
+
+pub returns-in-Err-answer_line-clause-causes : goal.returns-in-Err-answer_line-clause-causes
+returns-in-Err-answer_line-clause-causes g c =
+    causes_line c.in-Err-answer_line.status _ _ (g.K.Sink.faults c.lines.sink) (g.D.Disk.faults c.lines.disk) c.in-Err-answer_line.ensures.kind
+    c.in-Err-answer_line.ensures.sink_cause c.in-Err-answer_line.ensures.disk_cause c.lines.invariant.sink c.lines.invariant.disk
+    (c.in-Ok-Line.ensures.cause.steady (ok_is_no_error c.in-Ok-Line.field-0 Failed) ∙ c.lines.invariant.source) refl
+
+pub returns-in-Err-write_done-clause-end : goal.returns-in-Err-write_done-clause-end
+returns-in-Err-write_done-clause-end g c = λ base h.
+    ended_done_cut _ _ _ _ (DeskKeeps c.lines.desk) _ _ _ _ (c.lines.invariant.running base h) _ _ _
+    (rw c.in-Ok-End.field-0-is at c.in-Ok-End.ensures.given) c.in-Err-write_done.ensures.err _ (sink_other _ c.in-Err-write_done.ensures.kind)
+
+pub returns-clause-end : goal.returns-clause-end
+returns-clause-end g c = λ base h.
+    ended_done _ _ _ _ (DeskKeeps c.lines.desk) _ _ _ _ (c.lines.invariant.running base h) _ _ _
+    (rw c.in-Ok-End.field-0-is at c.in-Ok-End.ensures.given) c.in-Ok-write_done.ensures.ok
+
+pub returns-clause-script : goal.returns-clause-script
+returns-clause-script g c =
+    tells_end _ _ _ _ c.lines.invariant.reading _ _ (rw c.in-Ok-End.field-0-is at c.in-Ok-End.ensures.given)
+
+pub returns-clause-shows : goal.returns-clause-shows
+returns-clause-shows g c = λ tells on _ base h.
+    ended_shows _ _ _ _ (DeskKeeps c.lines.desk) _ _ _ _ (c.lines.invariant.running base h) _ _
+    (rw c.in-Ok-End.field-0-is at c.in-Ok-End.ensures.given) (g.D.Disk.state c.lines.disk)
+    (λ s kept image left. c.law_images_show_the_state.ensures s kept.node (c.lines.invariant.stands tells on) image left)

@@ -1,0 +1,11 @@
+pub mod Answers
+pub mod Desk
+pub mod Ends
+pub mod Parsing
+pub mod Reading
+pub mod Runs
+pub mod Script
+pub mod Sessions
+pub mod Statuses
+pub mod Words
+pub mod Writing

@@ -1,0 +1,93 @@
+-- A session in the middle of its script.
+use Rattle.std.specs.Prelude.{◌≡◌, ℕ, ◌+◌, ◌<◌, ◌≤◌, ◌↔◌, List, [], ◌∷◌, ◌++◌, length, take, Option, Some, None, ⊤}
+use Rattle.std.specs.List.{flat_map, enumerate_from}
+use Rattle.std.specs.Fmt.{decimal}
+use Rattle.std.specs.Option.{option_map}
+use Rattle.std.specs.Io.KnownBytes.{Appends}
+use Rattle.gl_node.specs.State.{Base, State, Event, opened, state_after}
+use Rattle.gl_fields.specs.declared.entry.Outcome.{Outcome}
+use Rattle.gl_node.specs.Arrivals.{arrival_of, arrival_events}
+use Rattle.gl_node.specs.Claims.{claim_answer, claimed_by, finish_answer, finish_events}
+use Rattle.gl_cli.specs.declared.desk.Desk.{Desk}
+use Rattle.gl_cli.specs.declared.line.Line.{Line}
+use Rattle.gl_cli.specs.declared.line.Line.TheVariants.{Blank, At, Udp, Claim, Finish, Listing}
+use Rattle.gl_cli.specs.Answers.{words_text, arrival_words, claim_words, finish_words, outcome_words}
+use Rattle.gl_cli.specs.Desk.{DeskKeeps}
+use Rattle.gl_cli.specs.Script.{lines_within, lines_run, bad_line, script_lines, script_limit, moment_after, last_moment}
+use Rattle.gl_cli.specs.Runs.{Turn, answered, listed, turns_of, script_turns, all_events, all_text, turn_events, turn_text}
+use Rattle.gl_cli.specs.Writing.{BeginsWith}
+
+-- something stands for a state of which this holds
+abbrev pub SomeAfter : (State → Type 0) → (State → Type 0) → Type 0
+SomeAfter stands P = (s : State) × stands s × P s
+
+-- a script of which some lines were read: what is ahead decides its status, whatever a node answers
+pub record ReadTo (script : List ℕ) (ahead : Option (List ℕ)) (budget number : ℕ) : Type 0 where
+  pub text : List ℕ
+  pub ahead_is : ahead ≡ Some text
+  pub bad : bad_line (script_lines script) ≡ option_map (λ k. number + k) (bad_line (lines_within budget text))
+  pub long : (length script ≤ script_limit) ↔ (length text ≤ budget)
+
+-- a session that has answered some lines: the turns so far, and then those of the lines ahead, are all
+pub record Running (base : Base) (script : List ℕ) (before now : Option (List ℕ)) (s : State) (ahead : Option (List ℕ)) (budget number moment : ℕ) : Type 0 where
+  pub turns : List Turn
+  pub past : List Line
+  pub text : List ℕ
+  pub ahead_is : ahead ≡ Some text
+  pub all : script_turns base [] script ≡ turns ++ turns_of past s [] (lines_run (lines_within budget text))
+  pub state_is : s ≡ state_after (opened base) (all_events turns)
+  pub moment_is : moment ≡ moment_after past
+  pub bad : bad_line (script_lines script) ≡ option_map (λ k. number + k) (bad_line (lines_within budget text))
+  pub long : (length script ≤ script_limit) ↔ (length text ≤ budget)
+  pub gained : Appends before now (all_text turns)
+
+-- what a line gives at a moment: only by the moment does it depend on the lines before it
+abbrev pub payload_turn : ℕ → List ℕ → List ℕ → List ℕ → State → Turn
+payload_turn moment input peer payload s =
+    answered (arrival_words (arrival_of s moment input peer payload)) (arrival_events s moment input peer payload) ∷ []
+
+abbrev pub claim_turn : ℕ → ℕ → State → Turn
+claim_turn worker limit s =
+    answered (claim_words worker (claim_answer s worker limit)) (claimed_by worker (claim_answer s worker limit)) ∷ []
+
+abbrev pub finish_turn : ℕ → State → Turn
+finish_turn worker s = answered (finish_words (finish_answer s worker)) (finish_events s worker) ∷ []
+
+abbrev pub turn_at : ℕ → Line → State → Turn
+turn_at moment Blank s = []
+turn_at moment (At next) s = []
+turn_at moment (Udp input peer payload) s = payload_turn moment input peer payload s
+turn_at moment (Claim worker limit) s = claim_turn worker limit s
+turn_at moment (Finish worker) s = finish_turn worker s
+turn_at moment Listing s = listed s
+
+-- the lines of a list behind its first one
+abbrev pub outcomes_text : List Outcome → List ℕ
+outcomes_text outcomes = flat_map (λ item. words_text (decimal item.0 ∷ outcome_words item.1)) (enumerate_from 0 outcomes)
+
+-- what a node takes: a peer of 1 to 255 bytes, workers below 64, limits from 1 to 256, and moments as far as there are any
+abbrev pub IsFit : Line → Type 0
+IsFit Blank = ⊤
+IsFit (At next) = next ≤ last_moment
+IsFit (Udp input peer payload) = (0 < length peer) × (length peer ≤ 255)
+IsFit (Claim worker limit) = (worker < 64) × (1 ≤ limit) × (limit ≤ 256)
+IsFit (Finish worker) = worker < 64
+IsFit Listing = ⊤
+
+-- a line was answered: its answer lines are in the sink
+abbrev pub Answered : Turn → Option (List ℕ) → Option (List ℕ) → Type 0
+Answered turn before now = Appends before now (turn_text turn)
+
+-- or the session ended in a line: a front of its answer lines is in the sink
+pub record CutShort (turn : Turn) (before now : Option (List ℕ)) : Type 0 where
+  pub front : List ℕ
+  pub begins : BeginsWith (turn_text turn) front
+  pub gained : Appends before now front
+
+-- For each state that the desk kept: it keeps the state after a turn's events, and the turn's answer lines are in the sink.
+abbrev pub DoesTurn : (State → Turn) → Desk → Desk → Option (List ℕ) → Option (List ℕ) → Type 0
+DoesTurn turn old new before now =
+    (s : State) → DeskKeeps old s → DeskKeeps new (state_after s (turn_events (turn s))) × Answered (turn s) before now
+
+abbrev pub CutsTurn : (State → Turn) → Desk → Option (List ℕ) → Option (List ℕ) → Type 0
+CutsTurn turn old before now = (s : State) → DeskKeeps old s → CutShort (turn s) before now

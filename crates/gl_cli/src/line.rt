@@ -1,0 +1,23 @@
+use gl_base::{Items, Text};
+
+/// A line of a script.
+#[derive(Debug, Drop)]
+pub enum Line {
+    Blank,
+    At {
+        moment: u64,
+    },
+    Udp {
+        input: Text,
+        peer: Text,
+        payload: Items<u8>,
+    },
+    Claim {
+        worker: u32,
+        limit: u32,
+    },
+    Finish {
+        worker: u32,
+    },
+    Listing,
+}

@@ -1,0 +1,8 @@
+//! Worked rows and other tests that cross the layers: a script over a source, a sink and a disk in memory.
+//!
+//! Expected values are worked out by hand from docs/SCRIPT.md and docs/FORMATS.md. They show what no
+//! clause says: that runs succeed with ample memory, and that the documents' examples come out.
+#![tactic(auto)]
+
+#[cfg(test)]
+mod tests;

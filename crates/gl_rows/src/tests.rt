@@ -1,0 +1,192 @@
+// Scripts over objects in memory.
+use gl_base::Text;
+use gl_cli::{Status, run_command};
+use gl_fields::{Entry, Outcome};
+use gl_node::{Arrival, Claimed, Finished, Node, Options, stage_range};
+use gl_outside::{ListShop, MemoryDisk, MemorySink, MemorySource};
+use std::alloc::{AllocError, Global};
+use std::test::Fail;
+
+/// What a run came to: its status, what was written, and the first two areas.
+#[derive(Drop)]
+struct Played {
+    status: Status,
+    written: Vec<u8>,
+    journal: Vec<u8>,
+    index: Vec<u8>,
+}
+
+/// Which calls of the objects are to fail.
+#[derive(Clone, Copy)]
+struct Failing<'a> {
+    source: &'a [u64],
+    sink: &'a [u64],
+    disk: &'a [u64],
+}
+
+const NONE: Failing<'static> = Failing {
+    source: &[],
+    sink: &[],
+    disk: &[],
+};
+
+/// Runs words over a script that comes in pieces of so many bytes.
+fn play(
+    alloc: Global,
+    words: &[&str],
+    script: &[u8],
+    piece: usize,
+    failing: Failing<'_>,
+) -> Result<Played, AllocError> {
+    let mut texts = Vec::new(alloc);
+    for word in words {
+        texts.push(Text::from_str(alloc, word)?)?;
+    }
+    let mut disk = MemoryDisk::new(alloc, Vec::from_slice(alloc, failing.disk)?)?;
+    let mut shop = ListShop::new(alloc, Vec::new(alloc));
+    let mut source = MemorySource::new(script, piece, failing.source);
+    let mut sink = MemorySink::new(alloc, piece, Vec::from_slice(alloc, failing.sink)?);
+    let status = run_command(alloc, &texts, &mut disk, &mut shop, &mut source, &mut sink);
+    Ok(Played {
+        status,
+        written: Vec::from_slice(alloc, sink.bytes())?,
+        journal: Vec::from_slice(alloc, disk.bytes(0))?,
+        index: Vec::from_slice(alloc, disk.bytes(1))?,
+    })
+}
+
+const SESSION: [&str; 2] = ["session", "x"];
+
+const FIRST: &[u8] = b"at 1000\nudp raw 10.0.0.7 hello\nclaim 0 10\nfinish 0\nlist\n";
+
+const FIRST_OUTPUT: &[u8] =
+    b"journalled 0\nclaimed 0 0 1\ncommitted 1\njournal 1 committed 1\n0 stored 000000000000000000000001 message=hello&source=10.0.0.7&timestamp:1000\ndone 1 1\n";
+
+// The begin batch of a journal with segments of 67,108,864 bytes, and a shut gate behind it.
+const BEGUN_JOURNAL: &[u8] =
+    b"\x01\x00\x00\x00\x01\x00\x00\x00\x10\x00\x00\x00\x0c\x47\x4c\x4a\x01\x00\x00\x00\x00\x04\x00\x00\x00\x00";
+
+const BEGUN_INDEX: &[u8] =
+    b"\x01\x00\x00\x00\x01\x00\x00\x00\x10\x00\x00\x00\x0c\x47\x4c\x58\x01\x00\x00\x00\x00\x04\x00\x00\x00\x00";
+
+// What stands from place 25 on once `hello` from 10.0.0.7 at 1000 is journalled.
+const HELLO: &[u8] =
+    b"\x01\x00\x00\x00\x01\x00\x00\x00\x2b\x00\x00\x00\x27\x02\x03raw\x0810.0.0.7\x00\x00\x00\x00\x00\x00\x03\xe8\x00\x00\x00\x00\x00\x00\x00\x00\x00\x00\x00\x05hello\x00";
+
+#[test]
+fn an_empty_script_begins_two_logs(rt: HostRuntime) -> Result<(), Fail> {
+    let played = play(rt.alloc(), &SESSION, b"", 4096, NONE)?;
+    assert_eq!(rt; played.status, Status::Done);
+    assert_eq!(rt; played.written.as_slice(), b"done 0 0\n".as_slice());
+    assert_eq!(rt; played.journal.as_slice(), BEGUN_JOURNAL);
+    assert_eq!(rt; played.index.as_slice(), BEGUN_INDEX);
+    Ok(())
+}
+
+#[test]
+fn one_datagram_is_stored(rt: HostRuntime) -> Result<(), Fail> {
+    // However the source cuts it.
+    for piece in [1, 7, 4096] {
+        let played = play(rt.alloc(), &SESSION, FIRST, piece, NONE)?;
+        assert_eq!(rt; played.status, Status::Done);
+        assert_eq!(rt; played.written.as_slice(), FIRST_OUTPUT);
+        assert_eq!(rt; played.journal.len(), 78);
+        assert_eq!(rt; &played.journal[25..], HELLO);
+    }
+    Ok(())
+}
+
+#[test]
+fn other_answers_and_ends(rt: HostRuntime) -> Result<(), Fail> {
+    let cases: [(&[u8], Status, &[u8]); 8] = [
+        (
+            b"udp nope p x\n",
+            Status::Done,
+            b"unknown-input\ndone 0 0\n",
+        ),
+        (b"udp raw p \n", Status::Done, b"empty\ndone 0 0\n"),
+        (b"udp nope p \n", Status::Done, b"unknown-input\ndone 0 0\n"),
+        (
+            b"claim 0 1\nfinish 0\n",
+            Status::Done,
+            b"nothing\nno-claim\ndone 0 0\n",
+        ),
+        (
+            b"udp raw p x\nclaim 0 1\nclaim 0 1",
+            Status::Done,
+            b"journalled 0\nclaimed 0 0 1\nbusy 0 1\ndone 1 0\n",
+        ),
+        (b"claim 64 1\n", Status::BadScript { line: 1 }, b""),
+        (
+            b"# a remark\n\nudp raw p x\nat 007\nlist\n",
+            Status::BadScript { line: 4 },
+            b"journalled 0\n",
+        ),
+        (b"list", Status::Done, b"journal 0 committed 0\ndone 0 0\n"),
+    ];
+    for (script, status, written) in cases {
+        let played = play(rt.alloc(), &SESSION, script, 4096, NONE)?;
+        assert_eq!(rt; played.status, status);
+        assert_eq!(rt; played.written.as_slice(), written);
+    }
+    Ok(())
+}
+
+#[test]
+fn words_that_are_no_command(rt: HostRuntime) -> Result<(), Fail> {
+    let cases: [&[&str]; 5] = [
+        &[],
+        &["session"],
+        &["session", "-x"],
+        &["check", "x"],
+        &["session", "x", "y"],
+    ];
+    for words in cases {
+        let played = play(rt.alloc(), words, FIRST, 4096, NONE)?;
+        assert_eq!(rt; played.status, Status::Usage);
+        assert_eq!(rt; played.written.len(), 0);
+        assert_eq!(rt; played.journal.len(), 0);
+    }
+    Ok(())
+}
+
+#[test]
+fn the_first_fault_ends_the_run(rt: HostRuntime) -> Result<(), Fail> {
+    let alloc = rt.alloc();
+    let source = Failing {
+        source: &[1],
+        ..NONE
+    };
+    let played = play(alloc, &SESSION, FIRST, 4096, source)?;
+    assert_eq!(rt; played.status, Status::SourceFault);
+    let sink = Failing { sink: &[1], ..NONE };
+    let played = play(alloc, &SESSION, FIRST, 4096, sink)?;
+    assert_eq!(rt; played.status, Status::SinkFault);
+    for call in 1..25 {
+        let failing = [call];
+        let disk = Failing {
+            disk: &failing,
+            ..NONE
+        };
+        let played = play(alloc, &SESSION, FIRST, 4096, disk)?;
+        assert_eq!(rt; played.status, Status::DiskFault, "call {call}");
+    }
+    Ok(())
+}
+
+// The answers of the lines that came are in the sink before more of the source is asked for.
+#[test]
+fn answers_come_before_more_input(rt: HostRuntime) -> Result<(), Fail> {
+    let script = b"udp raw p x\nudp raw p y\nudp raw p z\n";
+    let second = Failing {
+        source: &[2],
+        ..NONE
+    };
+    let played = play(rt.alloc(), &SESSION, script, 25, second)?;
+    assert_eq!(rt; played.status, Status::SourceFault);
+    assert_eq!(rt;
+        played.written.as_slice(),
+        b"journalled 0\njournalled 1\n".as_slice()
+    );
+    Ok(())
+}
