@@ -1,6 +1,6 @@
 -- Which counts of faults moved.
-use Rattle.std.specs.Prelude.{◌≡◌, ◌≢◌, ◌⊎◌, ℕ, Result, Ok, Err, IsErrOf, ⊤}
-use Rattle.std.proofs.Common.{refl, ◌∙◌, ap, sym, subst, inl, inr, ⊎_elim}
+use Rattle.std.specs.Prelude.{◌≡◌, ℕ, Result, Ok, Err, IsErrOf, ⊤}
+use Rattle.std.proofs.Common.{refl, ◌∙◌, ap, sym, subst, inl, inr}
 use Rattle.gl_base.specs.Counts.{Rose, HasCause}
 use Rattle.gl_outside.specs.declared.fault.Outside.{Outside}
 use Rattle.gl_outside.specs.declared.fault.Outside.TheVariants as outside
@@ -10,7 +10,7 @@ use Rattle.gl_node.specs.declared.node.Node.{Node}
 use Rattle.gl_node.specs.Calls.{HasNodeCause}
 use Rattle.gl_node.specs.Node.{IsRunning}
 use Rattle.gl_cli.specs.declared.status.Status.{Status}
-use Rattle.gl_cli.specs.declared.status.Status.TheVariants.{Done, Usage, SourceFault, SinkFault, DiskFault, BadScript, Damaged, OutOfMemory, PatternFault, ScriptTooLong}
+use Rattle.gl_cli.specs.declared.status.Status.TheVariants.{SourceFault, SinkFault, DiskFault, OutOfMemory}
 use Rattle.gl_cli.specs.Ends.{Counts, HasCauses}
 use Rattle.gl_cli.specs.Statuses.{status_of, IsSinkStatus, IsLineStatus, IsRunStatus, source_status_of}
 use Rattle.gl_cli.proofs.Exits.{IsOther}

@@ -1,13 +1,12 @@
 -- What a desk keeps, after a call of its node.
-use Rattle.std.specs.Prelude.{◌≡◌, ◌≢◌, ◌⊎◌, ℕ, zero, suc, ◌+◌, ◌-◌, ◌<◌, ◌≤◌, Bool, true, false, not, List, [], ◌∷◌, ◌++◌, length, map, take, drop, get_or, All, Option, Some, None, find, count_by, ◌==◌, slice_range, cond, remove, if◌then◌else◌}
+use Rattle.std.specs.Prelude.{◌≡◌, ◌≢◌, ℕ, zero, suc, ◌+◌, ◌-◌, ◌<◌, ◌≤◌, Bool, true, false, not, List, [], ◌∷◌, ◌++◌, length, map, take, drop, get_or, All, Option, Some, None, find, count_by, ◌==◌, slice_range, cond, remove, if◌then◌else◌}
 use Rattle.std.specs.Prelude.{Result, Ok, Err, IsErrOf, ⊤}
-use Rattle.gl_node.specs.declared.fault.NodeFault.{NodeFault}
 use Rattle.gl_node.specs.declared.fault.NodeFault.TheVariants.{DiskFault}
 use Rattle.gl_node.specs.Calls.{HasNodeCause}
 use Rattle.std.proofs.lemmas.Bool.Decides.{nat_tests}
 use Rattle.gl_base.proofs.Counting.{one_if, count-cons, counted_at}
 use Rattle.gl_node.proofs.Tiling.{held_high}
-use Rattle.std.proofs.Common.{refl, append-nil, ◌∙◌, ap, sym, subst, arith, inl, inr, ⊎_elim}
+use Rattle.std.proofs.Common.{refl, append-nil, ◌∙◌, ap, sym, subst, arith, inl, inr}
 use Rattle.std.proofs.lemmas.Bool.Decides.{eqb_tells}
 use Rattle.std.proofs.lemmas.List.{take-append-le, drop-take, map-append}
 use Rattle.std.proofs.lemmas.List.Elements.{All-head, All-tail}
@@ -23,9 +22,9 @@ use Rattle.gl_node.specs.Arrivals.{added_by}
 use Rattle.gl_node.specs.Configuration.{config_at}
 use Rattle.gl_node.specs.declared.answer.Claimed.{Claimed}
 use Rattle.gl_node.specs.Calls.{claimed_of}
-use Rattle.gl_node.specs.Claims.{ClaimAnswer, Granted, Nothing, Busy, claimed_by, range_of, held_by, next_ready, fits, committed_within, commits, is_kept, finished_by, finish_events}
+use Rattle.gl_node.specs.Claims.{ClaimAnswer, Granted, Nothing, Busy, claimed_by, next_ready, fits, committed_within, commits, is_kept, finished_by, finish_events}
 use Rattle.gl_node.specs.Node.{Keeps, IsRunning, AreTiled}
-use Rattle.gl_node.specs.State.{State, Event, Added, CameIn, Committed, happened, state_after, without, commit_count}
+use Rattle.gl_node.specs.State.{State, Event, CameIn, Committed, happened, state_after, without}
 use Rattle.gl_cli.specs.declared.desk.Desk.{Desk}
 use Rattle.gl_cli.specs.declared.desk.Given.{Given}
 use Rattle.gl_cli.specs.Desk.{DeskKeeps, IsPlaceOf, given_by}

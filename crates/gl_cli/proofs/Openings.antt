@@ -1,19 +1,19 @@
 -- A store that isn't opened, and a store that is.
-use Rattle.std.specs.Prelude.{◌≡◌, ◌≢◌, ◌⊎◌, ℕ, ◌<◌, ◌≤◌, ◌^◌, Bool, true, false, ◌&&◌, List, [], ◌∷◌, Option, Some, None, IfSome, Result, Ok, Err, IsErrOf, ⊤, if◌then◌else◌, codes}
+use Rattle.std.specs.Prelude.{◌≡◌, ◌≢◌, ◌⊎◌, ℕ, Bool, true, false, ◌&&◌, List, [], ◌∷◌, Option, Some, None, IfSome, Err, IsErrOf, ⊤, if◌then◌else◌, codes}
 use Rattle.std.specs.Str.{bytes_eq}
-use Rattle.std.specs.Io.KnownBytes.{Appends, Keeps}
-use Rattle.std.proofs.Common.{refl, ◌∙◌, ap, sym, subst, arith, inl, inr, ⊎_elim}
-use Rattle.gl_base.specs.Counts.{Rose, HasCause}
+use Rattle.std.specs.Io.KnownBytes.{Keeps}
+use Rattle.std.proofs.Common.{refl, ◌∙◌, ap, sym, subst, arith, inl, inr}
+use Rattle.gl_base.specs.Counts.{HasCause}
 use Rattle.gl_gatelog.specs.declared.kind.Log.{Log}
 use Rattle.gl_node.specs.declared.fault.OpenFault.{OpenFault}
 use Rattle.gl_node.specs.declared.fault.OpenFault.TheVariants as unopened
 use Rattle.gl_node.specs.declared.node.Options.{Options}
-use Rattle.gl_node.specs.Standing.{AreOptions, empty_base}
+use Rattle.gl_node.specs.Standing.{AreOptions}
 use Rattle.gl_node.specs.State.{Base}
 use Rattle.gl_cli.specs.declared.status.Command.{Command}
 use Rattle.gl_cli.specs.declared.status.Command.TheVariants as asked
 use Rattle.gl_cli.specs.declared.status.Status.{Status}
-use Rattle.gl_cli.specs.declared.status.Status.TheVariants.{Done, Usage, SourceFault, SinkFault, DiskFault, BadScript, Damaged, OutOfMemory, PatternFault, ScriptTooLong}
+use Rattle.gl_cli.specs.declared.status.Status.TheVariants.{Done, Usage, DiskFault, Damaged, OutOfMemory, PatternFault}
 use Rattle.gl_cli.specs.Ends.{Counts, HasCauses, MayEnd, SaysDamaged, SessionEnd}
 use Rattle.gl_cli.specs.Runs.{output}
 use Rattle.gl_cli.specs.Statuses.{IsRunStatus, open_status_of}

@@ -1,5 +1,5 @@
 -- How a session goes on.
-use Rattle.std.specs.Prelude.{◌≡◌, ◌↔◌, ℕ, suc, ◌+◌, ◌≤◌, false, List, [], ◌∷◌, ◌++◌, length, Option, Some, None, max, map, flat_map}
+use Rattle.std.specs.Prelude.{◌≡◌, ℕ, suc, ◌+◌, false, List, [], ◌∷◌, ◌++◌, Option, Some, None, max, map}
 use Rattle.std.specs.List.{fold}
 use Rattle.std.specs.Option.{option_map}
 use Rattle.std.proofs.Common.{refl, ◌∙◌, ap, sym, subst, append_assoc, arith, append-nil}
@@ -13,8 +13,8 @@ use Rattle.gl_cli.specs.declared.line.Line.{Line}
 use Rattle.gl_cli.specs.declared.line.Line.TheVariants.{Blank, At, Udp, Claim, Finish, Listing}
 use Rattle.gl_cli.specs.declared.reader.Next.TheVariants.{Line as Text}
 use Rattle.gl_cli.specs.Desk.{DeskKeeps}
-use Rattle.gl_cli.specs.Script.{lines_within, lines_run, bad_line, script_lines, moment_after, moment_in, line_of, read_then, number_behind}
-use Rattle.gl_cli.specs.Runs.{Turn, turns_of, turn_of, script_turns, all_events, all_text, turn_events, turn_text}
+use Rattle.gl_cli.specs.Script.{lines_within, lines_run, bad_line, moment_after, moment_in, line_of, read_then, number_behind}
+use Rattle.gl_cli.specs.Runs.{Turn, turns_of, turn_of, all_events, all_text, turn_events, turn_text}
 use Rattle.gl_cli.specs.Reading.{GivesKnown}
 use Rattle.gl_cli.specs.Sessions.{Running, Answered, CutShort, DoesTurn, CutsTurn, turn_at, payload_turn}
 use Rattle.gl_cli.proofs.Sinks.{Appends-more}

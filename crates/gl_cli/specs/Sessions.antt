@@ -1,10 +1,10 @@
 -- A session in the middle of its script.
-use Rattle.std.specs.Prelude.{◌≡◌, ℕ, ◌+◌, ◌<◌, ◌≤◌, ◌↔◌, List, [], ◌∷◌, ◌++◌, length, take, Option, Some, None, ⊤}
+use Rattle.std.specs.Prelude.{◌≡◌, ℕ, ◌+◌, ◌<◌, ◌≤◌, ◌↔◌, List, [], ◌∷◌, ◌++◌, length, Option, Some, ⊤}
 use Rattle.std.specs.List.{flat_map, enumerate_from}
 use Rattle.std.specs.Fmt.{decimal}
 use Rattle.std.specs.Option.{option_map}
 use Rattle.std.specs.Io.KnownBytes.{Appends}
-use Rattle.gl_node.specs.State.{Base, State, Event, opened, state_after}
+use Rattle.gl_node.specs.State.{Base, State, opened, state_after}
 use Rattle.gl_fields.specs.declared.entry.Outcome.{Outcome}
 use Rattle.gl_node.specs.Arrivals.{arrival_of, arrival_events}
 use Rattle.gl_node.specs.Claims.{claim_answer, claimed_by, finish_answer, finish_events}

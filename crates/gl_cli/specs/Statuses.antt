@@ -7,7 +7,7 @@ use Rattle.gl_node.specs.declared.fault.OpenFault.TheVariants as unopened
 use Rattle.gl_outside.specs.declared.fault.Outside.{Outside}
 use Rattle.gl_outside.specs.declared.fault.Outside.TheVariants as outside
 use Rattle.gl_cli.specs.declared.status.Status.{Status}
-use Rattle.gl_cli.specs.declared.status.Status.TheVariants.{Done, Usage, SourceFault, SinkFault, DiskFault, BadScript, Damaged, OutOfMemory, PatternFault, ScriptTooLong}
+use Rattle.gl_cli.specs.declared.status.Status.TheVariants.{Usage, SourceFault, SinkFault, DiskFault, Damaged, OutOfMemory, PatternFault}
 
 -- how a session ends whose node doesn't answer; a node that a disk fault has stopped answers nothing any more
 abbrev pub status_of : NodeFault → Status

@@ -74,13 +74,6 @@ pub fn finish_text(alloc: Global, finished: &Finished) -> Result<String, AllocEr
     }
 }
 
-/// The answer line of a finish where the worker holds nothing.
-pub fn no_claim_text(alloc: Global) -> Result<String, AllocError>
-    ensures { IfOk result (λ text. string_bytes text ≡ words_text (codes "no-claim" ∷ [])) }
-{
-    format!(in alloc; "no-claim\n")
-}
-
 /// The first line of a list.
 pub fn head_text(alloc: Global, journalled: u64, committed: u64) -> Result<String, AllocError>
     ensures { IfOk result (λ text. string_bytes text ≡ words_text (codes "journal" ∷ decimal journalled ∷ codes "committed" ∷ decimal committed ∷ [])) }

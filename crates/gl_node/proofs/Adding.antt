@@ -4,9 +4,9 @@ use Rattle.std.specs.Prelude.{sum_by, slice_get, slice_range, replicate}
 use Rattle.std.specs.List.{All}
 use Rattle.std.specs.declared.alloc.Global.{Global}
 use Rattle.std.proofs.lemmas.List.{take-append-le, drop-append-le, length-append, length-drop, length-replicate, length-map, get_or-map}
-use Rattle.std.proofs.Math.Seq.{take-append_seam, drop-append_seam}
+use Rattle.std.proofs.Math.Seq.{take-append_seam}
 use Rattle.std.proofs.lemmas.List.Sums.{sum_by-append, sum_by-cons}
-use Rattle.std.proofs.lemmas.List.Elements.{All-head, All-tail, All-weaker, All-drop}
+use Rattle.std.proofs.lemmas.List.Elements.{All-head, All-tail, All-weaker}
 use Rattle.gl_gatelog.specs.View.{GateView, appended}
 use Rattle.gl_gatelog.specs.Batch.{size}
 use Rattle.gl_fields.specs.declared.entry.Entry.{Entry}
@@ -16,7 +16,6 @@ use Rattle.gl_fields.specs.Entries.{is_admin, entry_bytes, version_after}
 use Rattle.gl_fields.specs.Outcomes.{outcome_bytes}
 use Rattle.gl_fields.specs.Bounds.{IsOutcome}
 use Rattle.gl_node.specs.declared.mark.Mark.{Mark}
-use Rattle.gl_node.specs.declared.mark.Claim.{Claim}
 use Rattle.gl_node.specs.Configuration.{config_at, config_after}
 use Rattle.gl_node.specs.Decoding.{outcome_of}
 use Rattle.gl_node.specs.Standing.{IsLawful, MayFollow}
@@ -25,8 +24,8 @@ use Rattle.gl_node.specs.declared.work.Work.{Work}
 use Rattle.gl_node.specs.declared.node.Node.{Node}
 use Rattle.gl_gatelog.specs.declared.kind.Log.TheVariants.{Journal}
 use Rattle.gl_node.specs.Claims.{version_at, range_of, range_batch, index_size, mark_of}
+use Rattle.gl_node.specs.Node.{Keeps, KeepsLog}
 use Rattle.gl_node.proofs.Tiling.{tiled_added, waiting_high}
-use Rattle.gl_node.specs.Node.{AreTiled, Keeps, KeepsLog}
 use Rattle.gl_node.proofs.OneThread.{outcome_of-later, map-same}
 
 -- an entry that may follow is no command
@@ -117,14 +116,11 @@ module _ (node : Node) (s : State) (entry : Entry) (keeps : Keeps node s) (follo
   -- the ranges that came in lie in the journal
   waiting_lie : All (λ (w : Work). w.range.first + length w.range.entries ≤ length s.journal) node.waiting.items
   waiting_lie k d lt =
-      let marks : List Mark = map (λ (w : Work). mark_of w.range) node.waiting.items in
-      let here : mark_of (slice_index_or node.waiting.items k d).range ≡ slice_index_or marks k (mark_of d.range) =
-      sym (get_or-map (λ (w : Work). mark_of w.range) node.waiting.items k d (mark_of d.range) lt) in
-      let there : k < length s.waiting = omega (arith, lt, length-map node.waiting.items (λ (w : Work). mark_of w.range), ap (λ (ms : List Mark). length ms) keeps.waiting) in
-      let bound : (slice_index_or marks k (mark_of d.range)).first + (slice_index_or marks k (mark_of d.range)).count ≤ node.next =
-      subst (λ (ms : List Mark). (slice_index_or ms k (mark_of d.range)).first + (slice_index_or ms k (mark_of d.range)).count ≤ node.next) (sym keeps.waiting)
-      (waiting_high s node.next keeps.tiled k (mark_of d.range) there) in
-      subst (λ (m : Mark). m.first + m.count ≤ length s.journal) (sym here) (omega (arith, bound, keeps.tiled.within))
+      let here : mark_of (slice_index_or node.waiting.items k d).range ≡ slice_index_or s.waiting k (mark_of d.range) =
+      sym (get_or-map (λ (w : Work). mark_of w.range) node.waiting.items k d (mark_of d.range) lt) ∙ ap (λ (ms : List Mark). slice_index_or ms k (mark_of d.range)) keeps.waiting in
+      let there : k < length s.waiting = subst (λ (ms : List Mark). k < length ms) keeps.waiting (omega (arith, lt, length-map node.waiting.items (λ (w : Work). mark_of w.range))) in
+      let below = waiting_high s node.next keeps.tiled k (mark_of d.range) there in
+      subst (λ (m : Mark). m.first + m.count ≤ length s.journal) (sym here) (omega (arith, below, keeps.tiled.within))
 
   ranges_stay : All (λ (w : Work). w.range ≡ range_of (happened s (Added entry)) (mark_of w.range)) node.waiting.items
   ranges_stay k d lt = keeps.ranges k d lt ∙ sym (range_stays s entry (mark_of (slice_index_or node.waiting.items k d).range) (waiting_lie k d lt))

@@ -1,9 +1,9 @@
 -- What becomes of the index log, and of the store, where a batch is appended.
-use Rattle.std.proofs.Common.{◌≡◌, ◌≢◌, ◌⊎◌, inl, inr, ⊎_elim, ℕ, ◌+◌, ◌<◌, ◌≤◌, Bool, true, false, cond, ltb, nat_le, List, [], ◌∷◌, ◌++◌, length, map, Option, Some, None, Result, Ok, Err, MatchOption, IfErr, refl, sym, ◌∙◌, ap, subst, arith}
+use Rattle.std.proofs.Common.{◌≡◌, ◌≢◌, ◌⊎◌, inl, inr, ⊎_elim, ℕ, ◌+◌, ◌<◌, ◌≤◌, Bool, true, false, cond, ltb, nat_le, List, [], ◌∷◌, ◌++◌, length, map, Some, None, Result, Ok, Err, MatchOption, IfErr, refl, sym, ◌∙◌, ap, subst, arith}
 use Rattle.std.proofs.lemmas.Bool.Decides.{nat_tests}
 use Rattle.std.proofs.lemmas.Grind.{flat_map-append}
 use Rattle.std.proofs.lemmas.List.{append-nil, map-append}
-use Rattle.gl_outside.specs.Disk.{Image, DiskState, LeavesOnly}
+use Rattle.gl_outside.specs.Disk.{DiskState, LeavesOnly}
 use Rattle.gl_outside.proofs.Moments.{at_end}
 use Rattle.gl_gatelog.specs.declared.kind.Log.{Log}
 use Rattle.gl_gatelog.specs.declared.kind.Log.TheVariants.{Journal, Index}

@@ -1,5 +1,5 @@
 -- What a finish answers, by what its node keeps.
-use Rattle.std.proofs.Common.{◌≡◌, ◌≢◌, ℕ, ◌+◌, ◌-◌, ◌<◌, ◌≤◌, ◌==◌, Bool, true, false, List, [], ◌∷◌, ◌++◌, length, get_or, map, find, nat_lt, Vec, vec_len, Option, Some, None, option_map, MatchOption, Result, Ok, Err, IfOk, OnErr, refl, sym, ◌∙◌, ap, subst, arith}
+use Rattle.std.proofs.Common.{◌≡◌, ℕ, ◌+◌, ◌<◌, ◌≤◌, ◌==◌, Bool, true, false, List, length, get_or, find, nat_lt, Vec, vec_len, Option, Some, None, option_map, MatchOption, Result, Ok, Err, IfOk, OnErr, sym, ◌∙◌, ap, subst, arith}
 use Rattle.std.specs.Bool.{⊤}
 use Rattle.std.specs.declared.alloc.Global.{Global}
 use Rattle.std.specs.List.{position, list_any, slice_get}
@@ -13,7 +13,7 @@ use Rattle.gl_node.specs.declared.node.Node.{Node}
 use Rattle.gl_node.specs.declared.work.Work.{Work}
 use Rattle.gl_node.specs.declared.work.Range.{Range}
 use Rattle.gl_node.specs.State.{State, Event, CameIn, happened, state_after, commit_count}
-use Rattle.gl_node.specs.Calls.{finished_of, IsFresh, IsStale, WentOn}
+use Rattle.gl_node.specs.Calls.{finished_of, IsFresh, IsStale}
 use Rattle.gl_node.specs.Claims.{mark_of, range_of, held_by, next_ready, commits, full_or_committed, is_kept, finish_answer, finish_events}
 use Rattle.gl_node.specs.Commits.{CommittedSome}
 use Rattle.gl_node.specs.Node.{Keeps}

@@ -1,7 +1,6 @@
 -- What a claim answers: the positions from `next` on are the free ones.
-use Rattle.std.proofs.Common.{◌≡◌, ◌⊎◌, ⊎_elim, ℕ, ◌+◌, ◌-◌, ◌<◌, ◌≤◌, ◌==◌, Bool, true, false, ◌&&◌, min, List, [], ◌∷◌, ◌++◌, length, get_or, take, count_by, find, Option, Some, None, refl, sym, ◌∙◌, ap, subst, arith, length-take}
-use Rattle.std.specs.List.{All, slice_get, range_with_len, prefix_len}
-use Rattle.std.proofs.lemmas.Bool.Decides.{nat_tests}
+use Rattle.std.proofs.Common.{◌≡◌, ℕ, ◌+◌, ◌-◌, ◌<◌, ◌≤◌, ◌==◌, Bool, true, false, ◌&&◌, min, List, length, get_or, take, Some, None, refl, ◌∙◌, ap, arith, length-take}
+use Rattle.std.specs.List.{All, prefix_len}
 use Rattle.std.proofs.lemmas.List.Elements.{All-take}
 use Rattle.std.proofs.lemmas.List.FromFn.{length-range_with_len}
 use Rattle.std.proofs.lemmas.Option.{slice_get-get_or}

@@ -1,5 +1,5 @@
 -- What a node keeps, after a claim and after work that came in.
-use Rattle.std.proofs.Common.{◌≡◌, ℕ, suc, ◌+◌, ◌-◌, ◌<◌, ◌≤◌, ◌==◌, List, [], ◌∷◌, ◌++◌, length, get_or, take, drop, map, find, min, Vec, vec_capacity, slice_range, Option, Some, None, refl, sym, ◌∙◌, ap, subst, arith, length-take, length-drop}
+use Rattle.std.proofs.Common.{◌≡◌, ℕ, ◌+◌, ◌-◌, ◌<◌, ◌≤◌, ◌==◌, [], ◌∷◌, ◌++◌, length, get_or, drop, map, find, min, Vec, vec_capacity, slice_range, Some, None, refl, sym, ◌∙◌, ap, subst, arith, length-take, length-drop}
 use Rattle.std.specs.declared.alloc.Global.{Global}
 use Rattle.std.specs.List.{All, remove, slice_get, position}
 use Rattle.std.proofs.lemmas.List.{map-append, take_all}
@@ -9,11 +9,9 @@ use Rattle.std.proofs.lemmas.Option.{get_or_from_slice_get, slice_get_within}
 use Rattle.gl_base.proofs.Counting.{find_at_none, find_at_some}
 use Rattle.gl_fields.specs.Entries.{version_after}
 use Rattle.gl_node.specs.declared.answer.Claimed.{Claimed}
-use Rattle.gl_node.specs.declared.config.Config.{Config}
 use Rattle.gl_node.specs.declared.mark.Mark.{Mark}
 use Rattle.gl_node.specs.declared.mark.Claim.{Claim}
 use Rattle.gl_node.specs.declared.node.Node.{Node}
-use Rattle.gl_node.specs.declared.work.Range.{Range}
 use Rattle.gl_node.specs.declared.work.Work.{Work}
 use Rattle.gl_node.specs.Configuration.{config_at}
 use Rattle.gl_node.specs.State.{State, Claimed as Happened, CameIn, happened, state_after, without}

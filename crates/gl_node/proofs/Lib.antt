@@ -1,14 +1,14 @@
 mod Adding
-mod Appending
+pub mod Appending
 mod Begun
 mod Entered
-mod Finishes
+pub mod Finishes
 pub mod Grants
 pub mod Keeping
 mod OneThread
-mod Outcomes
-mod Ready
+pub mod Outcomes
+pub mod Ready
 mod Shown
-mod Sizes
-mod Steps
+pub mod Sizes
+pub mod Steps
 pub mod Tiling

@@ -1,5 +1,5 @@
 -- What a node keeps after a range was committed.
-use Rattle.std.proofs.Common.{◌≡◌, ℕ, zero, suc, ◌+◌, ◌-◌, ◌<◌, ◌≤◌, ◌==◌, Bool, true, false, nat_le, List, [], ◌∷◌, ◌++◌, length, get_or, take, drop, map, sum_by, Vec, vec_capacity, slice_range, replicate, Option, Some, None, option_map, refl, sym, ◌∙◌, ap, subst, arith, append_assoc, add_assoc, length-append, length-drop, length-take}
+use Rattle.std.proofs.Common.{◌≡◌, ℕ, ◌+◌, ◌-◌, ◌<◌, ◌≤◌, true, false, nat_le, List, [], ◌∷◌, ◌++◌, length, get_or, take, drop, map, sum_by, Vec, vec_capacity, slice_range, replicate, Some, option_map, refl, sym, ◌∙◌, ap, subst, arith, append_assoc, add_assoc, length-append, length-drop, length-take}
 use Rattle.std.specs.declared.alloc.Global.{Global}
 use Rattle.std.specs.List.{All, remove, slice_get}
 use Rattle.std.proofs.lemmas.List.{length-map, length-replicate, map-append, drop-take, drop-drop, take-append-drop}
@@ -19,7 +19,6 @@ use Rattle.gl_fields.specs.declared.entry.Outcome.{Outcome}
 use Rattle.gl_fields.specs.Bounds.{IsOutcome}
 use Rattle.gl_fields.specs.Entries.{version_after}
 use Rattle.gl_fields.specs.Outcomes.{outcome_bytes}
-use Rattle.gl_node.specs.declared.config.Config.{Config}
 use Rattle.gl_node.specs.declared.mark.Mark.{Mark}
 use Rattle.gl_node.specs.declared.node.Node.{Node}
 use Rattle.gl_node.specs.declared.work.Range.{Range}
@@ -27,7 +26,7 @@ use Rattle.gl_node.specs.declared.work.Work.{Work}
 use Rattle.gl_node.specs.Configuration.{config_at}
 use Rattle.gl_node.specs.Decoding.{outcome_of, outcome_under}
 use Rattle.gl_node.specs.State.{State, Committed, happened, commit_count, outcomes, except}
-use Rattle.gl_node.specs.Claims.{next_ready, fits, commits, range_of, mark_of, version_at, range_batch, index_size}
+use Rattle.gl_node.specs.Claims.{next_ready, fits, commits, range_of, mark_of, range_batch, index_size}
 use Rattle.gl_node.specs.Node.{AreTiled, Keeps, KeepsLog}
 use Rattle.gl_node.specs.Standing.{IsLawful, MayFollow}
 use Rattle.gl_node.proofs.Ready.{ready_is, commits_none, commits_more}

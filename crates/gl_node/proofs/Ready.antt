@@ -1,6 +1,5 @@
 -- How ready ranges are committed one after another, and what a finish answers.
-use Rattle.std.proofs.Common.{◌≡◌, ℕ, zero, suc, ◌+◌, ◌-◌, ◌<◌, ◌≤◌, ◌==◌, Bool, true, false, List, [], ◌∷◌, ◌++◌, length, get_or, take, Option, Some, None, refl, sym, ◌∙◌, ap, subst, arith, append_assoc, length-append}
-use Rattle.std.specs.List.{fold, remove}
+use Rattle.std.proofs.Common.{◌≡◌, ℕ, zero, suc, ◌<◌, ◌==◌, Bool, true, false, List, [], ◌∷◌, ◌++◌, length, get_or, Option, Some, None, refl, sym, ◌∙◌, ap, subst, arith, append_assoc, length-append}
 use Rattle.std.proofs.lemmas.Bool.Decides.{nat_tests}
 use Rattle.std.proofs.lemmas.List.{append-nil}
 use Rattle.std.proofs.lemmas.List.Edits.{length-remove}
@@ -11,8 +10,8 @@ use Rattle.gl_node.specs.declared.mark.Mark.{Mark}
 use Rattle.gl_node.specs.declared.mark.Claim.{Claim}
 use Rattle.gl_node.specs.declared.node.Node.{Node}
 use Rattle.gl_node.specs.State.{State, Event, CameIn, Committed, happened, state_after, commit_count, except}
-use Rattle.gl_node.specs.Claims.{FinishAnswer, Kept, NoClaim, held_by, next_ready, fits, committed_within, commits, is_kept, finished_by, finish_events, finish_answer, finish_unless, full_or_committed}
-use Rattle.gl_node.specs.Commits.{WasCommitted, DidNotFit, CommittedSome}
+use Rattle.gl_node.specs.Claims.{Kept, NoClaim, held_by, next_ready, fits, committed_within, commits, is_kept, finished_by, finish_events, finish_answer, finish_unless, full_or_committed}
+use Rattle.gl_node.specs.Commits.{WasCommitted, CommittedSome}
 use Rattle.gl_node.specs.Calls.{WentOn}
 use Rattle.gl_node.specs.Node.{AreTiled, Keeps}
 use Rattle.gl_node.proofs.Tiling.{one_begins, except_is}

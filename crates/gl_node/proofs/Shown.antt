@@ -1,5 +1,5 @@
 -- What a store on a disk shows.
-use Rattle.std.proofs.Common.{◌≡◌, ℕ, ◌≤◌, List, length, map, Some, ◌∙◌, ap, subst, sym, arith}
+use Rattle.std.proofs.Common.{◌≤◌, List, length, map, Some, ◌∙◌, ap, subst, arith}
 use Rattle.gl_outside.specs.Disk.{Image, DiskState}
 use Rattle.gl_gatelog.specs.declared.kind.Log.{Log}
 use Rattle.gl_gatelog.specs.declared.kind.Log.TheVariants.{Journal, Index}
@@ -10,7 +10,7 @@ use Rattle.gl_fields.specs.Entries.{entry_bytes}
 use Rattle.gl_fields.specs.Outcomes.{outcome_bytes}
 use Rattle.gl_node.specs.declared.node.Node.{Node}
 use Rattle.gl_node.specs.Standing.{StandsFor}
-use Rattle.gl_node.specs.State.{State, commit_count, outcomes}
+use Rattle.gl_node.specs.State.{State, outcomes}
 use Rattle.gl_node.specs.Node.{Keeps, NodeOn}
 
 pub shown : (node : Node) (s : State) (disk : DiskState) → Keeps node s → NodeOn node disk → (c : Image) → disk.may_leave c → StandsFor c s

@@ -1,11 +1,10 @@
 -- No outcome is longer than a record of a log may be.
-use Rattle.std.proofs.Common.{◌≡◌, ℕ, ◌+◌, ◌*◌, ◌^◌, ◌<◌, ◌≤◌, Bool, true, false, cond, ltb, List, [], ◌∷◌, ◌++◌, length, map, sum_by, refl, ◌∙◌, ap, arith, length-append}
+use Rattle.std.proofs.Common.{◌≡◌, ℕ, ◌+◌, ◌*◌, ◌^◌, ◌≤◌, Bool, true, false, cond, ltb, List, [], ◌∷◌, length, map, refl, arith, length-append}
 use Rattle.std.specs.List.{All, flat_map}
 use Rattle.std.specs.Int.{to_be_bytes, w16, w32, w64, cast_unsigned}
 use Rattle.std.proofs.lemmas.Bool.Decides.{nat_tests}
 use Rattle.std.proofs.lemmas.List.Elements.{All-head, All-tail}
 use Rattle.std.proofs.lemmas.List.Sums.{sum_by-cons}
-use Rattle.gl_gatelog.specs.Batch.{Batch}
 use Rattle.gl_gatelog.specs.View.{has_long}
 use Rattle.gl_fields.specs.declared.field.Field.{Field}
 use Rattle.gl_fields.specs.declared.field.Value.{Value}
@@ -15,7 +14,6 @@ use Rattle.gl_fields.specs.declared.entry.Cause.TheVariants.{NotJson, TooDeep, C
 use Rattle.gl_fields.specs.declared.entry.Outcome.{Outcome}
 use Rattle.gl_fields.specs.declared.entry.Outcome.TheVariants.{Applied, Stored, Dropped, Undecodable}
 use Rattle.gl_fields.specs.Fields.{value_text, field_size, counted_size}
-use Rattle.gl_fields.specs.Entries.{long_text}
 use Rattle.gl_fields.specs.Outcomes.{value_bytes, field_bytes, cause_bytes, outcome_bytes}
 use Rattle.gl_fields.specs.Bounds.{IsStored, IsOutcome}
 

@@ -1,8 +1,8 @@
 -- What one call to the index log makes of what a node keeps.
-use Rattle.std.proofs.Common.{◌≡◌, ◌⊎◌, ℕ, ◌+◌, ◌<◌, ◌≤◌, ◌==◌, Bool, true, false, List, [], ◌∷◌, ◌++◌, length, get_or, map, nat_le, Vec, vec_len, vec_capacity, Option, Some, None, Result, Ok, Err, MatchOption, IfErr, OnOk, refl, sym, ◌∙◌, ap, subst, arith}
+use Rattle.std.proofs.Common.{◌≡◌, ◌⊎◌, ℕ, ◌+◌, ◌<◌, ◌≤◌, ◌==◌, true, false, List, ◌++◌, length, get_or, map, nat_le, Vec, vec_len, vec_capacity, Some, Result, Ok, Err, MatchOption, IfErr, OnOk, sym, ◌∙◌, ap, arith}
 use Rattle.std.specs.Result.{is_err}
 use Rattle.std.specs.declared.alloc.Global.{Global}
-use Rattle.std.specs.List.{All, remove, slice_get, position}
+use Rattle.std.specs.List.{remove, slice_get, position}
 use Rattle.std.proofs.lemmas.Bool.Decides.{nat_tests}
 use Rattle.std.proofs.lemmas.List.{length-map}
 use Rattle.std.proofs.lemmas.Option.{slice_get-get_or}
@@ -10,7 +10,7 @@ use Rattle.gl_base.proofs.Counting.{find_at_some}
 use Rattle.gl_gatelog.specs.declared.kind.LogFault.{LogFault}
 use Rattle.gl_gatelog.specs.declared.kind.LogFault.TheVariants.{LogFull, DiskFault, OutOfMemory}
 use Rattle.gl_gatelog.specs.Batch.{Batch, size}
-use Rattle.gl_gatelog.specs.View.{GateView, batch_of, refusal, has_long, appended, refused}
+use Rattle.gl_gatelog.specs.View.{GateView, batch_of, refusal, has_long, appended}
 use Rattle.gl_fields.specs.declared.entry.Outcome.{Outcome}
 use Rattle.gl_fields.specs.Outcomes.{outcome_bytes}
 use Rattle.gl_node.specs.declared.node.Node.{Node}

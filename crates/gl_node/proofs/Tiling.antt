@@ -1,8 +1,8 @@
 -- How the ranges that are held or came in tile the positions behind the commit count, and what events do to that.
-use Rattle.std.proofs.Common.{◌≡◌, ◌⊎◌, inl, inr, ⊎_elim, ℕ, zero, suc, ◌+◌, ◌-◌, ◌<◌, ◌≤◌, ◌==◌, Bool, true, false, not, ◌&&◌, ◌||◌, cond, ltb, leb, eqb, nat_lt, nat_le, List, [], ◌∷◌, ◌++◌, length, get_or, filter, find, count_by, sum_by, Option, Some, None, refl, sym, ◌∙◌, ap, subst, arith, length-append}
-use Rattle.std.specs.List.{All, list_any, list_all, remove, Any}
+use Rattle.std.proofs.Common.{◌≡◌, ◌⊎◌, inl, inr, ⊎_elim, ℕ, ◌+◌, ◌-◌, ◌<◌, ◌≤◌, ◌==◌, Bool, true, false, not, ◌&&◌, ◌||◌, ltb, nat_lt, List, [], ◌∷◌, ◌++◌, length, get_or, find, count_by, None, refl, sym, ◌∙◌, ap, subst, arith, length-append}
+use Rattle.std.specs.List.{list_any, remove, Any}
 use Rattle.std.proofs.lemmas.Bool.Decides.{nat_tests}
-use Rattle.std.proofs.lemmas.List.Elements.{All-append, All-cons, All-nil, All-push}
+use Rattle.std.proofs.lemmas.List.Elements.{All-push}
 use Rattle.std.proofs.lemmas.List.Sums.{sum_by_push}
 use Rattle.gl_base.proofs.Counting.{one_if, count_push, count-remove, counted_at, any_counted, others_stay, none_counted, count_mono, All-remove}
 use Rattle.std.proofs.lemmas.List.Folds.{Any-from_list_any}
@@ -11,7 +11,7 @@ use Rattle.gl_fields.specs.declared.entry.Entry.{Entry}
 use Rattle.gl_node.specs.declared.mark.Mark.{Mark}
 use Rattle.gl_node.specs.declared.mark.Claim.{Claim}
 use Rattle.gl_node.specs.State.{State, Added, Claimed, CameIn, Committed, happened, commit_count, without, except}
-use Rattle.gl_node.specs.Claims.{lies_in, is_finished, is_claimed, is_free, is_kept}
+use Rattle.gl_node.specs.Claims.{lies_in, is_finished, is_free, is_kept}
 use Rattle.gl_node.specs.Node.{AreTiled, IsSized, times_taken, lies_between}
 
 abbrev pub holds_at : ℕ → Claim → Bool

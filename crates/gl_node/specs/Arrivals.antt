@@ -1,8 +1,7 @@
 -- What becomes of a payload.
-use Rattle.std.specs.Prelude.{ℕ, ◌+◌, Bool, not, List, [], ◌∷◌, length, nat_lt, ◌==◌, if◌then◌else◌}
+use Rattle.std.specs.Prelude.{ℕ, ◌+◌, not, List, [], ◌∷◌, length, nat_lt, ◌==◌, if◌then◌else◌}
 use Rattle.gl_fields.specs.declared.entry.Entry.{Entry}
 use Rattle.gl_fields.specs.declared.entry.Entry.TheVariants.{Message}
-use Rattle.gl_fields.specs.declared.entry.Message.{Message as Payload}
 use Rattle.gl_fields.specs.Entries.{version_after}
 use Rattle.gl_node.specs.declared.answer.Arrival.{Arrival}
 use Rattle.gl_node.specs.declared.answer.Arrival.TheVariants.{Journalled, Empty, FrameTooLong, UnknownInput, JournalFull}

@@ -1,5 +1,5 @@
 -- That outcomes are within their bounds is known in one way at most, so that a value may carry it.
-use Rattle.std.specs.Prelude.{◌≡◌, ℕ, ◌<◌, Bool, true, List, [], ◌∷◌, Option, None}
+use Rattle.std.specs.Prelude.{◌≡◌, ℕ, ◌<◌, true, List, [], ◌∷◌}
 use Rattle.std.proofs.Props.{props}
 use Rattle.std.specs.List.{All}
 use Rattle.gl_fields.specs.declared.field.Field.{Field}
@@ -10,7 +10,7 @@ use Rattle.gl_fields.specs.declared.entry.Cause.{Cause}
 use Rattle.gl_fields.specs.declared.entry.Cause.TheVariants.{NotJson, TooDeep, Compressed, NoShortMessage, TooManyFields, TooLarge}
 use Rattle.gl_fields.specs.declared.entry.Outcome.{Outcome}
 use Rattle.gl_fields.specs.declared.entry.Outcome.TheVariants.{Applied, Stored, Dropped, Undecodable}
-use Rattle.gl_fields.specs.Fields.{IsValue, IsField, IsFieldMap, Rises, refusal_of, comes_before}
+use Rattle.gl_fields.specs.Fields.{IsValue, IsField, IsFieldMap, Rises, comes_before}
 use Rattle.gl_fields.specs.Bounds.{IsCause, IsStored, IsOutcome}
 
 IsValue-prop : (v : Value) → IsProp (IsValue v)

@@ -1,7 +1,6 @@
 -- What the calls of a node answer, in the words of its definitions.
-use Rattle.std.specs.Prelude.{◌≡◌, ◌≢◌, ℕ, ◌+◌, ◌<◌, ◌≤◌, List, length, take, Option, Some, None, Result, IsErrOf, MatchOption, ⊤}
+use Rattle.std.specs.Prelude.{◌≡◌, ◌≢◌, ℕ, ◌<◌, ◌≤◌, List, length, take, Some, Result, IsErrOf, MatchOption, ⊤}
 use Rattle.gl_base.specs.Counts.{Rose}
-use Rattle.gl_node.specs.declared.mark.Mark.{Mark}
 use Rattle.gl_node.specs.declared.mark.Claim.{Claim}
 use Rattle.gl_node.specs.declared.work.Range.{Range}
 use Rattle.gl_node.specs.declared.answer.Claimed.{Claimed}

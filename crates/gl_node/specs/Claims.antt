@@ -1,8 +1,6 @@
 -- Who claims which positions, and what is committed.
-use Rattle.std.specs.Prelude.{ℕ, zero, suc, ◌+◌, ◌-◌, Bool, true, false, not, ◌&&◌, ◌||◌, List, [], ◌∷◌, ◌++◌, length, take, drop, map, sum_by, nat_lt, nat_le, ◌==◌, if◌then◌else◌, Option, Some, None, find, take_while, slice_range}
+use Rattle.std.specs.Prelude.{ℕ, zero, suc, ◌+◌, ◌-◌, Bool, true, false, not, ◌&&◌, ◌||◌, List, [], ◌∷◌, length, take, map, sum_by, nat_lt, nat_le, ◌==◌, if◌then◌else◌, Option, Some, None, find, take_while, slice_range}
 use Rattle.std.specs.List.{list_any, list_all, range_with_len}
-use Rattle.gl_fields.specs.declared.entry.Entry.{Entry}
-use Rattle.gl_fields.specs.declared.entry.Outcome.{Outcome}
 use Rattle.gl_fields.specs.Entries.{version_after}
 use Rattle.gl_fields.specs.Outcomes.{outcome_bytes}
 use Rattle.gl_node.specs.declared.mark.Mark.{Mark}
@@ -11,7 +9,7 @@ use Rattle.gl_gatelog.specs.Batch.{size as batch_size}
 use Rattle.gl_node.specs.declared.mark.Claim.{Claim}
 use Rattle.gl_node.specs.declared.work.Range.{Range}
 use Rattle.gl_node.specs.Configuration.{config_at}
-use Rattle.gl_node.specs.State.{State, Event, Claimed, CameIn, GivenUp, Committed, commit_count, state_after, happened}
+use Rattle.gl_node.specs.State.{State, Event, Claimed, CameIn, Committed, commit_count, state_after, happened}
 
 -- the positions of a range
 abbrev pub lies_in : ℕ → Mark → Bool

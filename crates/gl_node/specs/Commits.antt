@@ -1,5 +1,5 @@
 -- What stands while ready ranges are committed one after another.
-use Rattle.std.specs.Prelude.{◌≡◌, ℕ, List, [], ◌∷◌, ◌++◌, Option, Some}
+use Rattle.std.specs.Prelude.{◌≡◌, ℕ, List, [], ◌∷◌, ◌++◌, Some}
 use Rattle.gl_node.specs.declared.mark.Mark.{Mark}
 use Rattle.gl_node.specs.declared.committing.Step.{Step}
 use Rattle.gl_node.specs.declared.committing.Step.TheVariants.{Committed, Full}

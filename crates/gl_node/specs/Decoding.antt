@@ -5,7 +5,7 @@ use Rattle.std.specs.Str.Lossy.{utf8_lossy}
 use Rattle.gl_fields.specs.declared.field.Field.{Field}
 use Rattle.gl_fields.specs.declared.field.Value.TheVariants.{Text, Whole}
 use Rattle.gl_fields.specs.declared.field.FieldRefusal.{FieldRefusal}
-use Rattle.gl_fields.specs.declared.field.FieldRefusal.TheVariants.{BadFieldName, TooManyFields as TooManyNames, TooLarge as TooLargeMap, Reserved, OutOfMemory}
+use Rattle.gl_fields.specs.declared.field.FieldRefusal.TheVariants.{TooManyFields as TooManyNames}
 use Rattle.gl_fields.specs.declared.entry.Message.{Message as Payload}
 use Rattle.gl_fields.specs.declared.entry.Entry.{Entry}
 use Rattle.gl_fields.specs.declared.entry.Entry.TheVariants.{Admin, Message}

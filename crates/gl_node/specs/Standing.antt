@@ -1,5 +1,5 @@
 -- What an image shows, and which store is damaged.
-use Rattle.std.specs.Prelude.{◌≡◌, ℕ, ◌+◌, ◌<◌, ◌≤◌, ◌^◌, List, [], ◌∷◌, length, map, take, slice_get, Option, None, Some, IsTrue, ⊤}
+use Rattle.std.specs.Prelude.{◌≡◌, ℕ, ◌<◌, ◌≤◌, ◌^◌, List, [], length, map, take, slice_get, Option, None, Some, IsTrue, ⊤}
 use Rattle.std.specs.List.{All}
 use Rattle.gl_outside.specs.Disk.{Image}
 use Rattle.gl_gatelog.specs.declared.kind.Log.{Log}

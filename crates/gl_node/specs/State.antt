@@ -1,10 +1,9 @@
 -- The state of a node: one list of entries, and the ranges of positions that are claimed, came in and are committed.
-use Rattle.std.specs.Prelude.{ℕ, ◌+◌, Bool, not, ◌&&◌, List, [], ◌∷◌, ◌++◌, length, drop, sum_by, filter, ◌==◌}
+use Rattle.std.specs.Prelude.{ℕ, ◌+◌, not, List, [], ◌∷◌, ◌++◌, length, drop, sum_by, filter, ◌==◌}
 use Rattle.std.specs.List.{fold}
 use Rattle.gl_fields.specs.declared.entry.Entry.{Entry}
 use Rattle.gl_fields.specs.declared.entry.Outcome.{Outcome}
 use Rattle.gl_fields.specs.Entries.{entry_bytes}
-use Rattle.gl_fields.specs.Outcomes.{outcome_bytes}
 use Rattle.gl_node.specs.declared.mark.Mark.{Mark}
 use Rattle.gl_node.specs.declared.mark.Claim.{Claim}
 use Rattle.gl_node.specs.Decoding.{outcomes_after}

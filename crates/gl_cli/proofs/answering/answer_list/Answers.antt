@@ -1,8 +1,8 @@
-use Rattle.std.specs.Prelude.{◌≡◌, ℕ, List, [], ◌∷◌, length, codes}
+use Rattle.std.specs.Prelude.{List, [], ◌∷◌, length, codes}
 use Rattle.std.specs.List.{enumerate_from}
 use Rattle.std.specs.Fmt.{decimal}
 use Rattle.std.proofs.Common.{◌∙◌, ap, subst, sym}
-use Rattle.gl_node.specs.State.{Event, commit_count, outcomes, state_after}
+use Rattle.gl_node.specs.State.{Event, outcomes, state_after}
 use Rattle.gl_cli.specs.Answers.{words_text}
 use Rattle.gl_cli.specs.Desk.{DeskKeeps}
 use Rattle.gl_cli.specs.Runs.{listed}

@@ -1,15 +1,15 @@
 use Rattle.gl_outside.specs.declared.fault.Outside.TheVariants.{Failed}
 use Rattle.gl_cli.specs.declared.status.Status.TheVariants.{SinkFault, DiskFault}
 use Rattle.gl_cli.proofs.Desks.{ok_is_no_error}
-use Rattle.std.proofs.Common.{Bool, IsTrue, arith, rules, refl, sym, ap, subst, ◌∙◌, ◌<◌, ℕ}
+use Rattle.std.proofs.Common.{Bool, IsTrue, arith, refl, sym, ap, subst, ◌∙◌, ◌<◌}
 use Rattle.std.proofs.lemmas.Bool.{false≢true}
 use Rattle.gl_node.specs.State.{state_after}
 use Rattle.gl_cli.specs.Desk.{DeskKeeps}
 use Rattle.gl_cli.specs.Runs.{turn_events}
 use Rattle.gl_cli.specs.Script.{line_of}
 use Rattle.gl_cli.specs.Sessions.{turn_at}
-use Rattle.gl_cli.proofs.Causes.{causes_none, causes_source, causes_line, causes_sink, line_other, line_runs, sink_other, sink_runs, source_other, source_runs}
-use Rattle.gl_cli.proofs.Exits.{ended_other, ended_long, ended_bad, ended_cut, ended_done, ended_done_cut, ended_shows, running_init, running_next, read_first, reading_more, tells_end, tells_long, tells_bad, tells_other}
+use Rattle.gl_cli.proofs.Causes.{causes_line, line_other, sink_other, source_other}
+use Rattle.gl_cli.proofs.Exits.{ended_other, ended_long, ended_bad, ended_cut, ended_done, ended_done_cut, ended_shows, running_init, running_next, read_first, reading_more, tells_end, tells_long, tells_other}
 use Rattle.gl_cli.proofs.Fits.{line_fits, moment_fits}
 use Rattle.gl_cli.proofs.Sessions.{does_line, cuts_line}
 use Rattle.gl_cli.proofs.session.session.Goals as goal

@@ -1,5 +1,5 @@
 use Rattle.std.specs.Prelude.{Err}
-use Rattle.std.proofs.Common.{Bool, IsTrue, ℕ, ap, sym, subst, ◌∙◌, refl}
+use Rattle.std.proofs.Common.{Bool, IsTrue, ℕ, ap, sym, subst, refl}
 use Rattle.gl_node.specs.declared.fault.OpenFault.{OpenFault}
 use Rattle.gl_node.specs.declared.fault.OpenFault.TheVariants as unopened
 use Rattle.gl_node.specs.declared.node.Node.{Node}

@@ -1,4 +1,3 @@
-use Rattle.std.proofs.Common.{◌∙◌, sym}
 use Rattle.gl_node.specs.Arrivals.{arrival_of, next_entry}
 use Rattle.gl_cli.proofs.Desks.{after_arrival, still_running}
 use Rattle.gl_cli.proofs.desk.Desk.datagram.Goals as goal

@@ -1,4 +1,4 @@
-use Rattle.std.proofs.Common.{◌≡◌, Bool, IsTrue, sym, ◌∙◌, subst}
+use Rattle.std.proofs.Common.{Bool, IsTrue, sym, ◌∙◌, subst}
 use Rattle.gl_node.specs.declared.committing.Step.{Step}
 use Rattle.gl_node.specs.State.{Committed, happened, state_after}
 use Rattle.gl_node.specs.Commits.{IsStep}

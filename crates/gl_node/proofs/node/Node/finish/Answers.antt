@@ -1,5 +1,4 @@
-use Rattle.std.proofs.Common.{◌≡◌, ◌<◌, ◌≤◌, Bool, true, false, Ok, ap, refl, sym, ◌∙◌, subst, arith}
-use Rattle.gl_node.specs.declared.answer.Finished.{Finished}
+use Rattle.std.proofs.Common.{◌≤◌, true, false, Ok, ap, refl, sym, ◌∙◌, arith}
 use Rattle.gl_node.specs.declared.answer.Finished.TheVariants as finished
 use Rattle.gl_node.specs.declared.mark.Claim.{Claim}
 use Rattle.gl_node.specs.State.{CameIn, happened}
