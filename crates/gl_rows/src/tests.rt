@@ -1,8 +1,8 @@
 // Scripts over objects in memory.
 use gl_base::Text;
 use gl_cli::{Status, run_command};
-use gl_node::{Arrival, Claimed, Finished, Node, Options, stage_range};
-use gl_outside::{ListShop, MemoryDisk, MemorySink, MemorySource};
+use gl_node::{Arrival, Claimed, Finished, Log, Node, Options, stage_range};
+use gl_outside::{Disk, ListShop, MemoryDisk, MemorySink, MemorySource};
 use std::alloc::{AllocError, Global};
 use std::test::Fail;
 
@@ -190,7 +190,7 @@ fn answers_come_before_more_input(rt: HostRuntime) -> Result<(), Fail> {
     Ok(())
 }
 
-// The journal of 25 bytes takes no batch of 5,047 bytes within 4,096.
+// The journal of 77 bytes, with `hello` in it, takes no batch of 5,047 bytes within 4,096.
 #[test]
 fn a_full_journal_says_so(rt: HostRuntime) -> Result<(), Fail> {
     let alloc = rt.alloc();
@@ -201,15 +201,18 @@ fn a_full_journal_says_so(rt: HostRuntime) -> Result<(), Fail> {
         index_limit: 4096,
     };
     let mut node = Node::open(alloc, &mut disk, options)?;
+    let first = node.datagram(&mut disk, 1000, "raw", "10.0.0.7", b"hello")?;
+    assert_eq!(rt; first, Arrival::Journalled { position: 0 });
     let long = [b'x'; 5000];
-    let arrival = node.datagram(&mut disk, 1000, "raw", "10.0.0.7", &long)?;
+    let second = node.datagram(&mut disk, 1000, "raw", "10.0.0.7", &long)?;
     assert_eq!(rt;
-        arrival,
+        second,
         Arrival::JournalFull {
-            bytes: 25,
+            bytes: 77,
             limit: 4096
         }
     );
+    assert_eq!(rt; node.journalled(), 1);
     Ok(())
 }
 
@@ -243,5 +246,33 @@ fn a_full_index_log_says_so(rt: HostRuntime) -> Result<(), Fail> {
         }
     );
     assert_eq!(rt; node.committed(), 0);
+    Ok(())
+}
+
+// A store that holds something is not begun anew, and nothing of it is changed.
+#[test]
+fn a_store_that_is_there_is_left_as_it_is(rt: HostRuntime) -> Result<(), Fail> {
+    let alloc = rt.alloc();
+    let mut disk = MemoryDisk::new(alloc, Vec::new(alloc))?;
+    disk.write_at(0, 0, BEGUN_JOURNAL)?;
+    let words = [
+        Text::from_str(alloc, "session")?,
+        Text::from_str(alloc, "x")?,
+    ];
+    let mut shop = ListShop::new(alloc, Vec::new(alloc));
+    let mut source = MemorySource::new(FIRST, 4096, &[]);
+    let mut sink = MemorySink::new(alloc, 4096, Vec::new(alloc));
+    let status = run_command(alloc, &words, &mut disk, &mut shop, &mut source, &mut sink);
+    assert_eq!(rt;
+        status,
+        Status::Damaged {
+            log: Log::Journal,
+            area: 0,
+            at: 0
+        }
+    );
+    assert_eq!(rt; sink.bytes().len(), 0);
+    assert_eq!(rt; disk.bytes(0), BEGUN_JOURNAL);
+    assert_eq!(rt; disk.bytes(1).len(), 0);
     Ok(())
 }
