@@ -18,7 +18,7 @@ use Rattle.gl_cli.specs.Runs.{Turn, turns_of, turn_of, script_turns, all_events,
 use Rattle.gl_cli.specs.Reading.{GivesKnown}
 use Rattle.gl_cli.specs.Writing.{BeginsWith, AppendsSome}
 use Rattle.gl_cli.specs.Sessions.{Running, ReadTo, Answered, CutShort, SomeAfter}
-use Rattle.gl_cli.specs.Ends.{SessionEnd, EndsBy, Wrote, script_status, status_by}
+use Rattle.gl_cli.specs.Ends.{SessionEnd, EndsBy, Wrote, AnsweredAll, script_status, status_by}
 use Rattle.gl_cli.proofs.Sinks.{Appends-more, Appends-nothing}
 use Rattle.gl_cli.proofs.Sessions.{running_more, turns_of-line, bad_line-more}
 
@@ -28,6 +28,18 @@ IsOther Done = ⊥
 IsOther (BadScript line) = ⊥
 IsOther ScriptTooLong = ⊥
 IsOther other = ⊤
+
+pub unanswered : (status : Status) → IsOther status → AnsweredAll status → ⊥
+unanswered Done f all = f
+unanswered Usage f all = all
+unanswered SourceFault f all = all
+unanswered SinkFault f all = all
+unanswered DiskFault f all = all
+unanswered (BadScript line) f all = f
+unanswered (Damaged log area at) f all = all
+unanswered OutOfMemory f all = all
+unanswered PatternFault f all = all
+unanswered ScriptTooLong f all = f
 
 pub EndsBy-other : (script : List ℕ) (status : Status) → IsOther status → EndsBy script status
 EndsBy-other script Done f = absurd f
@@ -278,7 +290,29 @@ module _ (source : Option (List ℕ)) (base : Base) (before mid : Option (List �
             ∙ ap (λ t. all_text r.turns ++ t) w.1.1 ∙ sym (append_assoc (all_text r.turns) w.0 w.1.0),
       ))) running
 
-  -- what the node keeps at the end is the last state
+  -- what the node keeps where the run ends is the last state
+  pub shown_long : (rest : Option (List ℕ)) (left : ℕ) → GivesKnown TooLong ahead budget rest left → (disk : DiskState)
+      → ((s : State) → stands s → (image : Image) → disk.may_leave image → StandsFor image s)
+      → IfSome source (λ script. (image : Image) → disk.may_leave image → StandsFor image (last_state base (script_turns base [] script)))
+  shown_long rest left g disk shows = IfSome-with source (λ script p.
+      let r : Running base script before mid p.0 ahead budget number moment = p.2 in
+      let q : (lines_run (lines_within budget r.text) ≡ []) × (script_status script ≡ ScriptTooLong)
+      = Gives-long base script before mid p.0 budget number moment ahead rest left r (known_with TooLong rest left r g) in
+      subst (λ (s : State). (image : Image) → disk.may_leave image → StandsFor image s)
+      (r.state_is ∙ ap (λ (ts : List Turn). state_after (opened base) (all_events ts)) (sym (turns_all base script before mid p.0 ahead budget number moment r q.0)))
+      (shows p.0 p.1)) running
+
+  pub shown_bad : (rest : Option (List ℕ)) (left : ℕ) (text : List ℕ) → GivesKnown (Text text) ahead budget rest left → line_of text ≡ None → (disk : DiskState)
+      → ((s : State) → stands s → (image : Image) → disk.may_leave image → StandsFor image s)
+      → IfSome source (λ script. (image : Image) → disk.may_leave image → StandsFor image (last_state base (script_turns base [] script)))
+  shown_bad rest left text g e disk shows = IfSome-with source (λ script p.
+      let r : Running base script before mid p.0 ahead budget number moment = p.2 in
+      let q : (lines_run (lines_within budget r.text) ≡ []) × (script_status script ≡ BadScript (number + 1))
+      = Gives-bad base script before mid p.0 budget number moment ahead rest left text r (known_with (Text text) rest left r g) e in
+      subst (λ (s : State). (image : Image) → disk.may_leave image → StandsFor image s)
+      (r.state_is ∙ ap (λ (ts : List Turn). state_after (opened base) (all_events ts)) (sym (turns_all base script before mid p.0 ahead budget number moment r q.0)))
+      (shows p.0 p.1)) running
+
   pub ended_shows : (rest : Option (List ℕ)) (left : ℕ) → GivesKnown End ahead budget rest left → (disk : DiskState)
       → ((s : State) → stands s → (image : Image) → disk.may_leave image → StandsFor image s)
       → IfSome source (λ script. (image : Image) → disk.may_leave image → StandsFor image (last_state base (script_turns base [] script)))

@@ -38,6 +38,13 @@ abbrev pub MayEnd : Command → Status → Type 0
 MayEnd asked.Usage status = status ≡ Usage
 MayEnd (asked.Session store options) status = (status ≢ Usage) × (status ≢ PatternFault)
 
+-- the statuses with which each line that is run was answered
+abbrev pub AnsweredAll : Status → Type 0
+AnsweredAll Done = ⊤
+AnsweredAll (BadScript line) = ⊤
+AnsweredAll ScriptTooLong = ⊤
+AnsweredAll other = ⊥
+
 -- What the sink gained: with `Done` the whole output; where the script ends the run, the answers of the lines that are
 -- run; and else a front of the output.
 abbrev pub Wrote : Base → List Bool → List ℕ → Status → List ℕ → Type 0

@@ -78,18 +78,3 @@ answers base marks script = all_text (script_turns base marks script)
 -- the whole output
 abbrev pub output : Base → List Bool → List ℕ → List ℕ
 output base marks script = answers base marks script ++ done_text (last_state base (script_turns base marks script))
-
--- of which events a byte of an answer is among the first so many bytes
-abbrev pub told_in : List Step → ℕ → ℕ
-told_in [] written = 0
-told_in (step ∷ steps) written =
-    if written == 0 then 0 else length step.events + told_in steps (written - length step.text)
-
-abbrev pub told : List Turn → ℕ → ℕ
-told turns written = told_in (flat_map (λ turn. turn) turns) written
-
--- the events of the lines up to the first whose answer isn't wholly among the first so many bytes
-abbrev pub begun : List Turn → ℕ → ℕ
-begun [] written = 0
-begun (turn ∷ turns) written =
-    length (turn_events turn) + (if nat_le (length (turn_text turn)) written then begun turns (written - length (turn_text turn)) else 0)

@@ -6,7 +6,7 @@ ghost use Rattle.gl_node.specs.Node.{NodeOn, NodeReady};
 ghost use Rattle.gl_node.specs.Standing.{StandsFor};
 ghost use Rattle.gl_node.specs.State.{Base, State, opened};
 ghost use Rattle.gl_cli.specs.Desk.{DeskKeeps};
-ghost use Rattle.gl_cli.specs.Ends.{SessionEnd, HasCauses, EndsBy};
+ghost use Rattle.gl_cli.specs.Ends.{SessionEnd, HasCauses, EndsBy, AnsweredAll};
 ghost use Rattle.gl_cli.specs.Runs.{script_turns, last_state};
 ghost use Rattle.gl_cli.specs.Script.{moment_in};
 ghost use Rattle.gl_cli.specs.Statuses.{IsRunStatus, source_status_of};
@@ -61,7 +61,7 @@ pub fn session<D: Disk, S: Source, K: Sink>(
         IfSome (S.left source.old) (λ script. SessionEnd base script result (K.contents sink.old) (K.contents sink.new)) }
     ensures script { IfSome (S.left source.old) (λ script. EndsBy script result) }
     ensures whole { result ≡ Status.Done → IsAtEnd (S.left source.new) }
-    ensures shows { Tells (D.state disk.old) → NodeOn desk.old.node (D.state disk.old) → result ≡ Status.Done → (base : Base) → DeskKeeps desk.old (opened base) →
+    ensures shows { Tells (D.state disk.old) → NodeOn desk.old.node (D.state disk.old) → AnsweredAll result → (base : Base) → DeskKeeps desk.old (opened base) →
         IfSome (S.left source.old) (λ script. (image : Image) → (D.state disk.new).may_leave image → StandsFor image (last_state base (script_turns base [] script))) }
     ensures runs { IsRunStatus result }
     ensures causes { HasCauses result
@@ -75,13 +75,19 @@ pub fn session<D: Disk, S: Source, K: Sink>(
     'lines: loop {
         match reader.next_line(alloc, source) {
             Err(fault) => return source_status(fault),
-            Ok(Next::TooLong) => return Status::ScriptTooLong,
+            Ok(Next::TooLong) => {
+                law_images_show_the_state(&desk.node, disk);
+                return Status::ScriptTooLong;
+            }
             Ok(Next::End) => break 'lines,
             Ok(Next::Line(text)) => {
                 number += 1;
                 match line_of(alloc, text.as_slice()) {
                     Err(_) => return Status::OutOfMemory,
-                    Ok(None) => return Status::BadScript { line: number },
+                    Ok(None) => {
+                        law_images_show_the_state(&desk.node, disk);
+                        return Status::BadScript { line: number };
+                    }
                     Ok(Some(line)) => match answer_line(alloc, desk, disk, sink, moment, &line) {
                         Err(status) => return status,
                         Ok(()) => moment = moment_with(moment, &line),

@@ -3,10 +3,10 @@ ghost use Rattle.std.specs.Io.KnownBytes.{IsAtEnd, Keeps};
 ghost use Rattle.gl_outside.specs.Disk.{Image, Tells};
 ghost use Rattle.gl_gatelog.specs.declared.kind.Log.{Log};
 ghost use Rattle.gl_node.specs.declared.node.Options.{Options};
-ghost use Rattle.gl_node.specs.Standing.{AreOptions, IsDamaged, StandsFor, empty_base};
+ghost use Rattle.gl_node.specs.Standing.{AreOptions, IsDamaged, IsLeft, StandsFor, empty_base};
 ghost use Rattle.gl_cli.specs.Statuses.{open_status_of};
 ghost use Rattle.gl_cli.specs.Words.{command_for};
-ghost use Rattle.gl_cli.specs.Ends.{MayEnd, EndsBy, SessionEnd, SaysDamaged, HasCauses, IsEmptyBehindLogs, final_state};
+ghost use Rattle.gl_cli.specs.Ends.{MayEnd, EndsBy, SessionEnd, AnsweredAll, SaysDamaged, HasCauses, IsEmptyBehindLogs, final_state};
 
 use crate::desk::Desk;
 use crate::session::session;
@@ -66,11 +66,11 @@ fn run_session<D: Disk, S: Source, K: Sink>(
     ensures script { IfSome (S.left source.old) (λ script. EndsBy script result) }
     ensures whole { result ≡ Status.Done → IsAtEnd (S.left source.new) }
     ensures output { IfSome (S.left source.old) (λ script. SessionEnd (empty_base options) script result (K.contents sink.old) (K.contents sink.new)) }
-    ensures shows { Tells (D.state disk.old) → IsEmptyBehindLogs (D.state disk.old) → result ≡ Status.Done →
+    ensures shows { Tells (D.state disk.old) → IsEmptyBehindLogs (D.state disk.old) → AnsweredAll result →
         IfSome (S.left source.old) (λ script. (image : Image) → (D.state disk.new).may_leave image → StandsFor image (final_state options script)) }
     ensures damaged { Tells (D.state disk.old) → (log : Log) (area at : ℕ) → result ≡ Status.Damaged log area at → IsDamaged (D.state disk.old).reads log area at }
     ensures damaged_store { Tells (D.state disk.old) → (log : Log) (area at : ℕ) → IsDamaged (D.state disk.old).reads log area at
-        → SaysDamaged result log area at × Keeps (K.contents sink.old) (K.contents sink.new) }
+        → SaysDamaged result log area at × Keeps (K.contents sink.old) (K.contents sink.new) × IsLeft log (D.state disk.old) (D.state disk.new) }
     ensures tells { (D.state disk.new).tells ≡ (D.state disk.old).tells }
 {
     match Node::open(alloc, disk, options) {
@@ -115,15 +115,15 @@ pub fn run_command<D: Disk, P: PatternShop, S: Source, K: Sink>(
     ensures output { (store : List ℕ) (options : Options) → command_for words.now ≡ Command.Session store options →
         IfSome (S.left source.old) (λ script. SessionEnd (empty_base options) script result (K.contents sink.old) (K.contents sink.new)) }
 
-    // With `Done` each image that a crash may leave shows the state after all events of the script.
+    // Where each line that is run was answered, each image that a crash may leave shows the state after all their events.
     ensures shows { (store : List ℕ) (options : Options) → command_for words.now ≡ Command.Session store options →
-        Tells (D.state disk.old) → IsEmptyBehindLogs (D.state disk.old) → result ≡ Status.Done →
+        Tells (D.state disk.old) → IsEmptyBehindLogs (D.state disk.old) → AnsweredAll result →
         IfSome (S.left source.old) (λ script. (image : Image) → (D.state disk.new).may_leave image → StandsFor image (final_state options script)) }
 
-    // A damaged store is told as such, is never run, and nothing is written.
+    // A damaged store is told as such and never run, no byte is written to the sink, and it is left as it is.
     ensures damaged { Tells (D.state disk.old) → (log : Log) (area at : ℕ) → result ≡ Status.Damaged log area at → IsDamaged (D.state disk.old).reads log area at }
     ensures damaged_store { Tells (D.state disk.old) → (log : Log) (area at : ℕ) → IsDamaged (D.state disk.old).reads log area at
-        → (command_for words.now ≡ Command.Usage) ⊎ (SaysDamaged result log area at × Keeps (K.contents sink.old) (K.contents sink.new)) }
+        → (command_for words.now ≡ Command.Usage) ⊎ (SaysDamaged result log area at × Keeps (K.contents sink.old) (K.contents sink.new) × IsLeft log (D.state disk.old) (D.state disk.new)) }
     ensures tells { (D.state disk.new).tells ≡ (D.state disk.old).tells }
 {
     let _ = shop;

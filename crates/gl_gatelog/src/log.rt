@@ -1,7 +1,7 @@
 // A log of records in batches, over the areas of a disk.
 ghost use Rattle.std.specs.Prelude.{◌≡◌, ◌≢◌, ◌⊎◌, ℕ, ◌+◌, ◌*◌, if◌then◌else◌, replicate, Bool, ◌^◌, ◌<◌, ◌≤◌, List, [], ◌∷◌, ◌++◌, false, true, length, Some, None, IfOk, IfErr, OnOk, OnErr, IsErrOf, MatchOption, MatchResult, vec_capacity};
 ghost use Rattle.gl_base.specs.Counts.{HasCause};
-ghost use Rattle.gl_outside.specs.Disk.{Image, DiskState, Tells, LeavesOnly};
+ghost use Rattle.gl_outside.specs.Disk.{Image, DiskState, Tells, IsUnchanged, LeavesOnly};
 ghost use Rattle.gl_gatelog.specs.declared.kind.Log.{Log};
 ghost use Rattle.gl_gatelog.specs.declared.kind.LogFault.TheVariants.{DiskFault, OutOfMemory};
 ghost use Rattle.gl_gatelog.specs.Batch.{Batch, size, body};
@@ -67,6 +67,8 @@ impl GateLog {
         // No other area is written.
         ensures elsewhere { Tells (D.state disk.old) → (b : ℕ) → b ≢ area_of log 0 → (D.state disk.new).reads b ≡ (D.state disk.old).reads b }
         ensures sound { Tells (D.state disk.old) → OnOk result (length ((D.state disk.old).reads (area_of log 0)) ≤ 1) }
+        // A log that holds something is left as it is.
+        ensures untouched { Tells (D.state disk.old) → 1 < length ((D.state disk.old).reads (area_of log 0)) → IsUnchanged (D.state disk.old) (D.state disk.new) }
         ensures faults { HasCause LogFault.DiskFault (D.faults disk.old) (D.faults disk.new) result }
         ensures tells { (D.state disk.new).tells ≡ (D.state disk.old).tells }
     {

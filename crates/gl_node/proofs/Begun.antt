@@ -1,13 +1,16 @@
 -- Two logs begun on one disk, the journal first.
+use Rattle.std.specs.Prelude.{◌<◌, List, length}
 use Rattle.std.proofs.Common.{◌≡◌, ◌≢◌, ⊎_elim, ℕ, Bool, IsTrue, [], refl, sym, ◌∙◌, ap, subst, arith}
-use Rattle.gl_outside.specs.Disk.{Image, DiskState, Tells, LeavesOnly}
+use Rattle.gl_outside.specs.Disk.{Image, DiskState, Tells, IsUnchanged, LeavesOnly}
 use Rattle.gl_outside.proofs.Moments.{at_end}
+use Rattle.gl_gatelog.specs.declared.kind.Log.{Log}
 use Rattle.gl_gatelog.specs.declared.kind.Log.TheVariants.{Journal, Index}
 use Rattle.gl_gatelog.specs.Log.{area_of}
 use Rattle.gl_gatelog.specs.Stand.{StandsOn, IsEmptyBehind, LeftByOpening}
 use Rattle.gl_gatelog.specs.View.{GateView, begun}
 use Rattle.gl_gatelog.proofs.Apart.{OnlyIn, other_area, other_stands}
 use Rattle.gl_node.specs.Node.{StoreOn}
+use Rattle.gl_node.specs.Standing.{IsUsed, IsDamaged, IsLeft}
 
 pub still : (old new : DiskState) → new.tells ≡ old.tells → Tells old → Tells new
 still old new same tells = subst (λ (b : Bool). IsTrue b) (sym same) tells
@@ -44,3 +47,28 @@ both_begun journal index segment limit d0 d1 d2 is empty stands run second secon
       entries = refl;
       outcomes = refl;
     }
+
+-- ---- what opening leaves of a damaged store
+
+first_areas : area_of Index 0 ≢ area_of Journal 0
+first_areas = other_area Journal Index two_logs 0 0
+
+-- nothing was done yet
+pub left_as_is : (log : Log) (d0 : DiskState) → IsLeft log d0 d0
+left_as_is Journal d0 = record { reads = refl; images = λ c now. now }
+left_as_is Index d0 = λ b apart. refl
+
+-- the journal was looked at, and not opened
+pub left_at_first : (log : Log) (area at : ℕ) (d0 d1 : DiskState) → IsDamaged d0.reads log area at
+    → (IsUsed Journal d0.reads → IsUnchanged d0 d1) → ((b : ℕ) → b ≢ area_of Journal 0 → d1.reads b ≡ d0.reads b) → IsLeft log d0 d1
+left_at_first Journal area at d0 d1 is untouched elsewhere = untouched is.0
+left_at_first Index area at d0 d1 is untouched elsewhere = elsewhere
+
+-- the journal was opened, and the index log looked at
+pub left_at_second : (log : Log) (area at : ℕ) (d0 d1 d2 : DiskState) → IsDamaged d0.reads log area at
+    → (IsUsed Journal d0.reads → ⊥) → ((b : ℕ) → b ≢ area_of Journal 0 → d1.reads b ≡ d0.reads b)
+    → (IsUsed Index d1.reads → IsUnchanged d1 d2) → IsLeft log d0 d2
+left_at_second Journal area at d0 d1 d2 is fresh elsewhere untouched = absurd (fresh is.0)
+left_at_second Index area at d0 d1 d2 is fresh elsewhere untouched = λ b apart.
+    let used : IsUsed Index d1.reads = subst (λ (l : List ℕ). 1 < length l) (sym (elsewhere (area_of Index 0) first_areas)) is.1 in
+    ap (λ (image : Image). image b) (untouched used).reads ∙ elsewhere b apart

@@ -1,7 +1,7 @@
 -- What an image shows, and which store is damaged.
-use Rattle.std.specs.Prelude.{◌≡◌, ℕ, ◌<◌, ◌≤◌, ◌^◌, List, [], length, map, take, slice_get, Option, None, Some, IsTrue, ⊤}
+use Rattle.std.specs.Prelude.{◌≡◌, ◌≢◌, ℕ, ◌<◌, ◌≤◌, ◌^◌, List, [], length, map, take, slice_get, Option, None, Some, IsTrue, ⊤}
 use Rattle.std.specs.List.{All}
-use Rattle.gl_outside.specs.Disk.{Image}
+use Rattle.gl_outside.specs.Disk.{Image, DiskState, IsUnchanged}
 use Rattle.gl_gatelog.specs.declared.kind.Log.{Log}
 use Rattle.gl_gatelog.specs.declared.kind.Log.TheVariants.{Journal, Index}
 use Rattle.gl_gatelog.specs.Batch.{Batch, size}
@@ -92,3 +92,8 @@ IsUsed log image = 1 < length (image (area_of log 0))
 abbrev pub IsDamaged : Image → Log → ℕ → ℕ → Type 0
 IsDamaged image Journal area at = IsUsed Journal image × (area ≡ area_of Journal 0) × (at ≡ 0)
 IsDamaged image Index area at = (IsUsed Journal image → ⊥) × IsUsed Index image × (area ≡ area_of Index 0) × (at ≡ 0)
+
+-- What opening leaves of a damaged store. Of a damaged journal nothing changes; before a damaged index log is looked at, the journal is begun.
+abbrev pub IsLeft : Log → DiskState → DiskState → Type 0
+IsLeft Journal old new = IsUnchanged old new
+IsLeft Index old new = (b : ℕ) → b ≢ area_of Journal 0 → new.reads b ≡ old.reads b

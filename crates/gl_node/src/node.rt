@@ -9,7 +9,7 @@ ghost use Rattle.gl_gatelog.specs.Stand.{IsEmptyBehind};
 ghost use Rattle.gl_node.specs.Arrivals.{arrival_of, arrival_events};
 ghost use Rattle.gl_node.specs.Calls.{HasNodeCause};
 ghost use Rattle.gl_node.specs.Node.{IsRunning, IsStoppedAt, Keeps, NodeOn, NodeReady};
-ghost use Rattle.gl_node.specs.Standing.{AreOptions, IsDamaged, StandsFor, empty_base};
+ghost use Rattle.gl_node.specs.Standing.{AreOptions, IsDamaged, IsLeft, StandsFor, empty_base};
 ghost use Rattle.gl_node.specs.State.{State, commit_count, opened, outcomes, state_after};
 
 use crate::answer::{Arrival, Claimed, Finished};
@@ -74,6 +74,7 @@ impl Node {
         // A damaged store isn't opened.
         ensures refused { Tells (D.state disk.old) → (log : Log) (area at : ℕ) → IsDamaged (D.state disk.old).reads log area at
             → MatchResult result (λ _. ⊥) (λ e. (e ≡ OpenFault.Damaged log area at) ⊎ (e ≡ OpenFault.DiskFault) ⊎ (e ≡ OpenFault.OutOfMemory)) }
+        ensures left { Tells (D.state disk.old) → (log : Log) (area at : ℕ) → IsDamaged (D.state disk.old).reads log area at → IsLeft log (D.state disk.old) (D.state disk.new) }
         ensures head { (log : Log) (area at : ℕ) → IsErrOf result (OpenFault.Damaged log area at) → (area ≡ area_of log 0) × (at ≡ 0) }
         ensures faults { HasCause OpenFault.DiskFault (D.faults disk.old) (D.faults disk.new) result }
         ensures tells { (D.state disk.new).tells ≡ (D.state disk.old).tells }

@@ -1,7 +1,7 @@
 // One log of a store is begun.
 ghost use Rattle.std.specs.Prelude.{◌≡◌, ◌≢◌, ◌⊎◌, ◌<◌, ◌≤◌, ◌^◌, ℕ, [], length, IfOk, IsErrOf, MatchResult};
 ghost use Rattle.gl_base.specs.Counts.{HasCause};
-ghost use Rattle.gl_outside.specs.Disk.{Tells, LeavesOnly};
+ghost use Rattle.gl_outside.specs.Disk.{Tells, IsUnchanged, LeavesOnly};
 ghost use Rattle.gl_gatelog.specs.declared.kind.Log.{Log};
 ghost use Rattle.gl_gatelog.specs.Log.{area_of};
 ghost use Rattle.gl_gatelog.specs.Stand.{StandsOn, IsReady, IsEmptyBehind, LeftByOpening};
@@ -33,6 +33,7 @@ pub fn open_log<D: Disk>(
     ensures damaged { Tells (D.state disk.old) → (damaged : Log) (area at : ℕ) → IsErrOf result (OpenFault.Damaged damaged area at) → IsUsed log (D.state disk.old).reads }
     ensures refused { Tells (D.state disk.old) → IsUsed log (D.state disk.old).reads
         → MatchResult result (λ _. ⊥) (λ e. (e ≡ OpenFault.Damaged log (area_of log 0) 0) ⊎ (e ≡ OpenFault.DiskFault) ⊎ (e ≡ OpenFault.OutOfMemory)) }
+    ensures untouched { Tells (D.state disk.old) → IsUsed log (D.state disk.old).reads → IsUnchanged (D.state disk.old) (D.state disk.new) }
     ensures faults { HasCause OpenFault.DiskFault (D.faults disk.old) (D.faults disk.new) result }
     ensures tells { (D.state disk.new).tells ≡ (D.state disk.old).tells }
 {

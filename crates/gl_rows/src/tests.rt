@@ -54,6 +54,21 @@ fn play(
     })
 }
 
+/// Runs the first script on a disk that is there already.
+fn play_on(
+    alloc: Global,
+    disk: &mut MemoryDisk,
+    sink: &mut MemorySink,
+) -> Result<Status, AllocError> {
+    let words = [
+        Text::from_str(alloc, "session")?,
+        Text::from_str(alloc, "x")?,
+    ];
+    let mut shop = ListShop::new(alloc, Vec::new(alloc));
+    let mut source = MemorySource::new(FIRST, 4096, &[]);
+    Ok(run_command(alloc, &words, disk, &mut shop, &mut source, sink))
+}
+
 const SESSION: [&str; 2] = ["session", "x"];
 
 const FIRST: &[u8] = b"at 1000\nudp raw 10.0.0.7 hello\nclaim 0 10\nfinish 0\nlist\n";
@@ -255,14 +270,9 @@ fn a_store_that_is_there_is_left_as_it_is(rt: HostRuntime) -> Result<(), Fail> {
     let alloc = rt.alloc();
     let mut disk = MemoryDisk::new(alloc, Vec::new(alloc))?;
     disk.write_at(0, 0, BEGUN_JOURNAL)?;
-    let words = [
-        Text::from_str(alloc, "session")?,
-        Text::from_str(alloc, "x")?,
-    ];
-    let mut shop = ListShop::new(alloc, Vec::new(alloc));
-    let mut source = MemorySource::new(FIRST, 4096, &[]);
+    disk.write_at(1, 0, BEGUN_INDEX)?;
     let mut sink = MemorySink::new(alloc, 4096, Vec::new(alloc));
-    let status = run_command(alloc, &words, &mut disk, &mut shop, &mut source, &mut sink);
+    let status = play_on(alloc, &mut disk, &mut sink)?;
     assert_eq!(rt;
         status,
         Status::Damaged {
@@ -273,6 +283,41 @@ fn a_store_that_is_there_is_left_as_it_is(rt: HostRuntime) -> Result<(), Fail> {
     );
     assert_eq!(rt; sink.bytes().len(), 0);
     assert_eq!(rt; disk.bytes(0), BEGUN_JOURNAL);
-    assert_eq!(rt; disk.bytes(1).len(), 0);
+    assert_eq!(rt; disk.bytes(1), BEGUN_INDEX);
+    Ok(())
+}
+
+// An index log without its journal: the journal is begun before the index log is looked at.
+#[test]
+fn an_index_log_that_is_there_is_left_as_it_is(rt: HostRuntime) -> Result<(), Fail> {
+    let alloc = rt.alloc();
+    let mut disk = MemoryDisk::new(alloc, Vec::new(alloc))?;
+    disk.write_at(1, 0, BEGUN_INDEX)?;
+    let mut sink = MemorySink::new(alloc, 4096, Vec::new(alloc));
+    let status = play_on(alloc, &mut disk, &mut sink)?;
+    assert_eq!(rt;
+        status,
+        Status::Damaged {
+            log: Log::Index,
+            area: 1,
+            at: 0
+        }
+    );
+    assert_eq!(rt; sink.bytes().len(), 0);
+    assert_eq!(rt; disk.bytes(0), BEGUN_JOURNAL);
+    assert_eq!(rt; disk.bytes(1), BEGUN_INDEX);
+    Ok(())
+}
+
+// What was answered before a bad line is on the disk, and what comes behind it is not.
+#[test]
+fn a_bad_line_loses_nothing(rt: HostRuntime) -> Result<(), Fail> {
+    let script = b"at 1000\nudp raw 10.0.0.7 hello\nclaim 64 1\nudp raw 10.0.0.7 more\n".as_slice();
+    let played = play(rt.alloc(), &SESSION, script, 4096, NONE)?;
+    assert_eq!(rt; played.status, Status::BadScript { line: 3 });
+    assert_eq!(rt; played.written.as_slice(), b"journalled 0\n".as_slice());
+    assert_eq!(rt; played.journal.len(), 78);
+    assert_eq!(rt; &played.journal[25..], HELLO);
+    assert_eq!(rt; played.index.as_slice(), BEGUN_INDEX);
     Ok(())
 }

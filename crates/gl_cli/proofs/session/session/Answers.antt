@@ -9,7 +9,7 @@ use Rattle.gl_cli.specs.Runs.{turn_events}
 use Rattle.gl_cli.specs.Script.{line_of}
 use Rattle.gl_cli.specs.Sessions.{turn_at}
 use Rattle.gl_cli.proofs.Causes.{causes_line, line_other, sink_other, source_other}
-use Rattle.gl_cli.proofs.Exits.{ended_other, ended_long, ended_bad, ended_cut, ended_done, ended_done_cut, ended_shows, running_init, running_next, read_first, reading_more, tells_end, tells_long, tells_other}
+use Rattle.gl_cli.proofs.Exits.{ended_other, ended_long, ended_bad, ended_cut, ended_done, ended_done_cut, ended_shows, shown_long, shown_bad, unanswered, running_init, running_next, read_first, reading_more, tells_end, tells_long, tells_other}
 use Rattle.gl_cli.proofs.Fits.{line_fits, moment_fits}
 use Rattle.gl_cli.proofs.Sessions.{does_line, cuts_line}
 use Rattle.gl_cli.proofs.session.session.Goals as goal
@@ -119,4 +119,26 @@ pub returns-clause-shows : goal.returns-clause-shows
 returns-clause-shows g c = λ tells on _ base h.
     ended_shows _ _ _ _ (DeskKeeps c.lines.desk) _ _ _ _ (c.lines.invariant.running base h) _ _
     (rw c.in-Ok-End.field-0-is at c.in-Ok-End.ensures.given) (g.D.Disk.state c.lines.disk)
+    (λ s kept image left. c.law_images_show_the_state-in-Ok-write_done.ensures s kept.node (c.lines.invariant.stands tells on) image left)
+
+pub returns-in-Ok-TooLong-clause-shows : goal.returns-in-Ok-TooLong-clause-shows
+returns-in-Ok-TooLong-clause-shows g c = λ tells on _ base h.
+    shown_long _ _ _ _ (DeskKeeps c.lines.desk) _ _ _ _ (c.lines.invariant.running base h) _ _
+    (rw c.in-Ok-TooLong.field-0-is at c.in-Ok-TooLong.ensures.given) (g.D.Disk.state c.lines.disk)
     (λ s kept image left. c.law_images_show_the_state.ensures s kept.node (c.lines.invariant.stands tells on) image left)
+
+pub returns-in-Ok-None-clause-shows : goal.returns-in-Ok-None-clause-shows
+returns-in-Ok-None-clause-shows g c = λ tells on _ base h.
+    shown_bad _ _ _ _ (DeskKeeps c.lines.desk) _ _ _ _ (c.lines.invariant.running base h) _ _ c.in-Ok-Line.text
+    (rw c.in-Ok-Line.field-0-is at c.in-Ok-Line.ensures.given)
+    (ap line_of (sym c.as_slice.ensures) ∙ sym c.in-Ok-None.ensures ∙ c.in-Ok-None.field-0-is) (g.D.Disk.state c.lines.disk)
+    (λ s kept image left. c.law_images_show_the_state-in-Ok-None.ensures s kept.node (c.lines.invariant.stands tells on) image left)
+
+pub returns-in-Err-clause-shows : goal.returns-in-Err-clause-shows
+returns-in-Err-clause-shows g c = λ tells on all. absurd (unanswered _ (source_other c.in-Err.fault _ c.source_status.ensures) all)
+
+pub returns-in-Err-answer_line-clause-shows : goal.returns-in-Err-answer_line-clause-shows
+returns-in-Err-answer_line-clause-shows g c = λ tells on all. absurd (unanswered c.in-Err-answer_line.status (line_other _ c.in-Err-answer_line.ensures.kind) all)
+
+pub returns-in-Err-write_done-clause-shows : goal.returns-in-Err-write_done-clause-shows
+returns-in-Err-write_done-clause-shows g c = λ tells on all. absurd (unanswered c.in-Err-write_done.status (sink_other _ c.in-Err-write_done.ensures.kind) all)

@@ -8,7 +8,7 @@ use Rattle.gl_node.specs.Standing.{empty_base}
 use Rattle.gl_node.specs.State.{opened}
 use Rattle.gl_cli.specs.Ends.{HasCauses}
 use Rattle.gl_cli.proofs.Desks.{ok_is_no_error}
-use Rattle.gl_cli.proofs.Exits.{tells_other}
+use Rattle.gl_cli.proofs.Exits.{tells_other, unanswered}
 use Rattle.gl_cli.proofs.Openings.{ends_unread, IfSome-any, Keeps-same, open_other, open_statuses, run_statuses, runs_undamaged, other_undone, damaged_by, says_damaged, causes_open}
 use Rattle.gl_cli.proofs.top.run_session.Goals as goal
 
@@ -29,7 +29,7 @@ returns-in-Err-clause-output g c = IfSome-any (g.S.Source.left c.args.source.now
     ends_unread (empty_base c.args.options) script (g.K.Sink.contents c.args.sink.now) c.open_status.result (open_other c.in-Err.fault c.open_status.result c.open_status.ensures))
 
 pub returns-in-Err-clause-shows : goal.returns-in-Err-clause-shows
-returns-in-Err-clause-shows g c = λ tells empty done. absurd (other_undone c.open_status.result (open_other c.in-Err.fault c.open_status.result c.open_status.ensures) done)
+returns-in-Err-clause-shows g c = λ tells empty all. absurd (unanswered c.open_status.result (open_other c.in-Err.fault c.open_status.result c.open_status.ensures) all)
 
 pub returns-in-Err-clause-damaged : goal.returns-in-Err-clause-damaged
 returns-in-Err-clause-damaged g c = λ tells log area at is.
@@ -39,6 +39,7 @@ pub returns-in-Err-clause-damaged_store : goal.returns-in-Err-clause-damaged_sto
 returns-in-Err-clause-damaged_store g c = λ tells log area at is. (
   says_damaged c.in-Err.fault c.open_status.result log area at c.open_status.ensures (c.in-Err.ensures.refused tells log area at is),
   Keeps-same (g.K.Sink.contents c.args.sink.now),
+  c.open.ensures.left tells log area at is,
 )
 
 pub session-requires-clause-keeps : goal.session-requires-clause-keeps
