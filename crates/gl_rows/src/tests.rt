@@ -321,3 +321,21 @@ fn a_bad_line_loses_nothing(rt: HostRuntime) -> Result<(), Fail> {
     assert_eq!(rt; played.index.as_slice(), BEGUN_INDEX);
     Ok(())
 }
+
+// Behind a bad line the source isn't asked again, and behind a fault of the sink it isn't written to again.
+#[test]
+fn the_end_of_a_run_is_its_end(rt: HostRuntime) -> Result<(), Fail> {
+    let alloc = rt.alloc();
+    let second = Failing {
+        source: &[2],
+        ..NONE
+    };
+    let played = play(alloc, &SESSION, b"claim 64 1\nlist\n", 11, second)?;
+    assert_eq!(rt; played.status, Status::BadScript { line: 1 });
+    let first = Failing { sink: &[1], ..NONE };
+    let played = play(alloc, &SESSION, FIRST, 4096, first)?;
+    assert_eq!(rt; played.status, Status::SinkFault);
+    assert_eq!(rt; played.written.len(), 0);
+    assert_eq!(rt; played.journal.len(), 78);
+    Ok(())
+}
