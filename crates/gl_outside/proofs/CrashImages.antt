@@ -30,20 +30,20 @@ untouched_cut a k n t e = let both = or_false (a == a && nat_le n k) t e in (gri
 
 -- ---- an event of another area changes nothing here
 
-other : (a b : ℕ) → b ≢ a → a == b ≡ false
+pub other : (a b : ℕ) → b ≢ a → a == b ≡ false
 other a b ne = grind (arith, nat_tests)
 
-own : (a : ℕ) → a == a ≡ true
+pub own : (a : ℕ) → a == a ≡ true
 own a = grind (arith, nat_tests)
 
 -- the same bounds after one event more
-record Same (b : ℕ) (now before : List Event) : Type 0 where
+pub record Same (b : ℕ) (now before : List Event) : Type 0 where
   pub bytes : synced b now ≡ synced b before
   pub least : least_length b now ≡ least_length b before
   pub greatest : greatest_length b now ≡ greatest_length b before
   pub touched : (k : ℕ) → is_touched b k now ≡ is_touched b k before
 
-same_write : (a at : ℕ) (bytes : List ℕ) (done : Bool) (events : List Event) (b : ℕ) → b ≢ a → Same b (Wrote a at bytes done ∷ events) events
+pub same_write : (a at : ℕ) (bytes : List ℕ) (done : Bool) (events : List Event) (b : ℕ) → b ≢ a → Same b (Wrote a at bytes done ∷ events) events
 same_write a at bytes done events b ne = let off = other a b ne in record {
   bytes = refl;
   least = refl;
@@ -51,7 +51,7 @@ same_write a at bytes done events b ne = let off = other a b ne in record {
   touched = λ k. ap (λ (x : Bool). x && nat_le at k && nat_lt k (at + length bytes) || is_touched b k events) off;
 }
 
-same_cut : (a n : ℕ) (done : Bool) (events : List Event) (b : ℕ) → b ≢ a → Same b (WasCut a n done ∷ events) events
+pub same_cut : (a n : ℕ) (done : Bool) (events : List Event) (b : ℕ) → b ≢ a → Same b (WasCut a n done ∷ events) events
 same_cut a n done events b ne = let off = other a b ne in record {
   bytes = refl;
   least = ap (λ (x : Bool). if x then min n (least_length b events) else least_length b events) off;
@@ -59,7 +59,7 @@ same_cut a n done events b ne = let off = other a b ne in record {
   touched = λ k. ap (λ (x : Bool). x && nat_le n k || is_touched b k events) off;
 }
 
-same_sync : (a : ℕ) (events : List Event) (b : ℕ) → b ≢ a → Same b (Synced a ∷ events) events
+pub same_sync : (a : ℕ) (events : List Event) (b : ℕ) → b ≢ a → Same b (Synced a ∷ events) events
 same_sync a events b ne = let off = other a b ne in record {
   bytes = ap (λ (x : Bool). if x then content events b else synced b events) off;
   least = ap (λ (x : Bool). if x then length (content events b) else least_length b events) off;
@@ -67,7 +67,7 @@ same_sync a events b ne = let off = other a b ne in record {
   touched = λ k. ap (λ (x : Bool). not x && is_touched b k events) off;
 }
 
-later : (b : ℕ) (now before : List Event) (l : List ℕ) → Same b now before → IsCrashImage b before l → IsCrashImage b now l
+pub later : (b : ℕ) (now before : List Event) (l : List ℕ) → Same b now before → IsCrashImage b before l → IsCrashImage b now l
 later b now before l same is = record {
   least = omega (arith, same.least, is.least);
   most = omega (arith, same.greatest, is.most);
@@ -79,20 +79,20 @@ earlier_on b now before l same is = later b before now l (record { bytes = sym s
 
 -- ---- an event of this area
 
-greatest_write : (a at : ℕ) (bytes : List ℕ) (done : Bool) (events : List Event) → greatest_length a (Wrote a at bytes done ∷ events) ≡ max (at + length bytes) (greatest_length a events)
+pub greatest_write : (a at : ℕ) (bytes : List ℕ) (done : Bool) (events : List Event) → greatest_length a (Wrote a at bytes done ∷ events) ≡ max (at + length bytes) (greatest_length a events)
 greatest_write a at bytes done events = ap (λ (x : Bool). if x then max (at + length bytes) (greatest_length a events) else greatest_length a events) (own a)
 
-least_cut : (a n : ℕ) (done : Bool) (events : List Event) → least_length a (WasCut a n done ∷ events) ≡ min n (least_length a events)
+pub least_cut : (a n : ℕ) (done : Bool) (events : List Event) → least_length a (WasCut a n done ∷ events) ≡ min n (least_length a events)
 least_cut a n done events = ap (λ (x : Bool). if x then min n (least_length a events) else least_length a events) (own a)
 
 -- the bounds after a sync
-record AtSync (a : ℕ) (events : List Event) : Type 0 where
+pub record AtSync (a : ℕ) (events : List Event) : Type 0 where
   pub bytes : synced a (Synced a ∷ events) ≡ content events a
   pub least : least_length a (Synced a ∷ events) ≡ length (content events a)
   pub greatest : greatest_length a (Synced a ∷ events) ≡ length (content events a)
   pub touched : (k : ℕ) → is_touched a k (Synced a ∷ events) ≡ false
 
-at_sync : (a : ℕ) (events : List Event) → AtSync a events
+pub at_sync : (a : ℕ) (events : List Event) → AtSync a events
 at_sync a events = let yes = own a in record {
   bytes = ap (λ (x : Bool). if x then content events a else synced a events) yes;
   least = ap (λ (x : Bool). if x then length (content events a) else least_length a events) yes;
@@ -100,7 +100,7 @@ at_sync a events = let yes = own a in record {
   touched = λ k. ap (λ (x : Bool). not x && is_touched a k events) yes;
 }
 
-after_write : (a at : ℕ) (bytes : List ℕ) (done : Bool) (events : List Event) (d l : List ℕ) → IsCrashImage a events d → Torn at (length bytes) d l → IsCrashImage a (Wrote a at bytes done ∷ events) l
+pub after_write : (a at : ℕ) (bytes : List ℕ) (done : Bool) (events : List Event) (d l : List ℕ) → IsCrashImage a events d → Torn at (length bytes) d l → IsCrashImage a (Wrote a at bytes done ∷ events) l
 after_write a at bytes done events d l is torn = record {
   least = omega (arith, is.least, torn.no_shorter);
   most = omega (arith, is.most, torn.no_longer, greatest_write a at bytes done events);
@@ -115,14 +115,14 @@ after_write a at bytes done events d l is torn = record {
         let place : at + length bytes + (k - (at + length bytes)) ≡ k = omega arith in
         sym (ap (λ (j : ℕ). get_or l j 0) place) ∙ sym (get_or-drop (at + length bytes) l (k - (at + length bytes)) 0) ∙ ap (λ (x : List ℕ). get_or x (k - (at + length bytes)) 0) torn.after ∙ get_or-drop (at + length bytes) d (k - (at + length bytes)) 0 ∙ ap (λ (j : ℕ). get_or d j 0) place
 
-after_cut : (a n : ℕ) (done : Bool) (events : List Event) (d l : List ℕ) → IsCrashImage a events d → CutTo n d l → IsCrashImage a (WasCut a n done ∷ events) l
+pub after_cut : (a n : ℕ) (done : Bool) (events : List Event) (d l : List ℕ) → IsCrashImage a events d → CutTo n d l → IsCrashImage a (WasCut a n done ∷ events) l
 after_cut a n done events d l is cut = record {
   least = omega (arith, is.least, least_cut a n done events, ap length cut.before, length-take n l, length-take n d);
   most = omega (arith, is.most, cut.no_longer);
   kept = λ k lt off. let out = untouched_cut a k n (is_touched a k events) off in sym (get_or-take n l k 0 out.0) ∙ ap (λ (x : List ℕ). get_or x k 0) cut.before ∙ get_or-take n d k 0 out.0 ∙ is.kept k lt out.1;
 }
 
-after_sync : (a : ℕ) (events : List Event) (l : List ℕ) → l ≡ content events a → IsCrashImage a (Synced a ∷ events) l
+pub after_sync : (a : ℕ) (events : List Event) (l : List ℕ) → l ≡ content events a → IsCrashImage a (Synced a ∷ events) l
 after_sync a events l is = let at = at_sync a events in record {
   least = omega (arith, at.least, ap length is);
   most = omega (arith, at.greatest, ap length is);
@@ -224,7 +224,7 @@ as_synced a events l is =
     let long : length l ≡ length (content events a) = omega (arith, is.least, is.most, at.least, at.greatest) in
     ext_get_or 0 l (content events a) long (λ k lt. is.kept k (omega (arith, ap length at.bytes, long)) (at.touched k) ∙ ap (λ (x : List ℕ). get_or x k 0) at.bytes)
 
-now_in_words : (events : List Event) (b : ℕ) → IsCrashImage b events (content events b)
+pub now_in_words : (events : List Event) (b : ℕ) → IsCrashImage b events (content events b)
 now_in_words events b = in_words events (content events) (content_is_image events) b
 
 pub by_steps : (events : List Event) (c : Image) → AreLawful events → ((b : ℕ) → IsCrashImage b events (c b)) → IsImage events c

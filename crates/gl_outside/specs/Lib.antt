@@ -1,9 +1,13 @@
+pub mod AfterCrash
 pub mod Areas
 pub mod Calls
+pub mod Clocks
 pub mod Crash
 pub mod Disk
 pub mod Events
 pub mod Faults
+pub mod ImageWords
+pub mod Links
 pub mod Listed
 pub mod Mute
 pub mod RecordView

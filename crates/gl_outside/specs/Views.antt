@@ -1,5 +1,6 @@
 -- What contracts see of the kinds in memory.
-use Rattle.std.specs.Prelude.{◌≡◌, ◌⊎◌, ℕ, ◌+◌, ◌<◌, ◌≤◌, List, length}
+use Rattle.std.specs.Prelude.{◌≡◌, ◌≢◌, ◌⊎◌, ℕ, ◌+◌, ◌<◌, ◌≤◌, List, length, sum_by}
+use Rattle.std.specs.List.{AllPairs}
 use Rattle.gl_outside.specs.Events.{Event, content}
 use Rattle.gl_outside.specs.Listed.{one_more}
 
@@ -39,10 +40,11 @@ pub record DiskView : Type 0 where
 abbrev pub IsUsedUp : DiskView → ℕ → Type 0
 IsUsedUp d n = (d.calls_left ≡ 0) ⊎ (d.bytes_left < n)
 
--- there is room for 4,096 calls, and for 4,096 bytes more than an area holds
+-- there is room for 4,096 calls, and for 4,096 bytes more than an area holds, and than any areas hold together
 pub record HasRoom (d : DiskView) : Type 0 where
   pub for_calls : d.calls_left ≡ 4096
   pub for_bytes : (area : ℕ) → 4096 + length (content d.events area) ≤ d.bytes_left
+  pub for_areas : (areas : List ℕ) → AllPairs (λ a b. a ≢ b) areas → 4096 + sum_by (λ area. length (content d.events area)) areas ≤ d.bytes_left
 
 -- the next call was counted, and the same calls are to fail
 pub record CountsCall (old new : DiskView) : Type 0 where

@@ -3,14 +3,17 @@ ghost use Rattle.std.specs.Prelude.{◌≡◌, ◌↔◌, ◌⊎◌, ℕ, ◌+�
 ghost use Rattle.gl_base.specs.Counts.{HasCause};
 ghost use Rattle.gl_outside.specs.declared.fault.Outside.TheVariants.{Failed, OutOfMemory};
 ghost use Rattle.gl_outside.specs.Faults.{NeedsNoMemory};
+ghost use Rattle.gl_outside.specs.declared.crash.Unsynced.TheVariants.{Absent, Zeros, Ones};
+ghost use Rattle.gl_outside.specs.AfterCrash.{first_calls, left_by, IsFilled};
 ghost use Rattle.gl_outside.specs.Areas.{bytes_in, held};
-ghost use Rattle.gl_outside.specs.Crash.{AreLawful};
+ghost use Rattle.gl_outside.specs.Crash.{AreLawful, synced};
 ghost use Rattle.gl_outside.specs.Disk.{IsUnchanged, Elapses, Torn, CutTo, InArea, Follows, IsDurable, overwritten};
-ghost use Rattle.gl_outside.specs.Events.{content, told_by};
+ghost use Rattle.gl_outside.specs.Events.{content, told_by, IsImage, LeftSince};
 ghost use Rattle.gl_outside.specs.Listed.{IsListed, one_more};
 ghost use Rattle.gl_outside.specs.Views.{DiskView, IsUsedUp, HasRoom, CountsCall};
 
 use crate::areas::{Area, bytes_of, cut_area, write_area};
+use crate::crash::Unsynced;
 use crate::listed::{count_one, is_listed};
 use crate::record::Record;
 use crate::{Disk, Outside};
@@ -62,6 +65,25 @@ fn room_of(areas: &[Area]) -> usize
     room
 }
 
+// A record by which these areas were written and synced, with room for later calls.
+fn record_of(alloc: Global, areas: &[Area]) -> Result<Record, AllocError>
+    ensures holds { IfOk result (λ r. (b : ℕ) → bytes_in areas.now b ≡ content r.events b) }
+    ensures durable { IfOk result (λ r. (b : ℕ) → IsDurable b (content r.events b) (told_by r.events)) }
+    ensures lawful { IfOk result (λ r. AreLawful r.events) }
+    ensures calls_left { IfOk result (λ r. r.calls_left ≡ 4096) }
+    ensures bytes_left { IfOk result (λ r. r.bytes_left ≡ 4096 + held areas.now) }
+{
+    let mut calls = Record::new(alloc);
+    for a in areas {
+        let bytes = bytes_of(areas, a.number);
+        calls.reserve(2, bytes.len())?;
+        calls.write(a.number, 0, bytes, true);
+        calls.sync(a.number);
+    }
+    calls.reserve(MORE_CALLS, room_of(areas))?;
+    Ok(calls)
+}
+
 impl MemoryDisk {
     /// An empty disk. The calls whose numbers are in `failing` fail; the first call is 1, and from 2^64 - 1 on each is that.
     pub fn new(alloc: Global, failing: Vec<u64>) -> Result<Self, AllocError>
@@ -85,6 +107,50 @@ impl MemoryDisk {
         ensures lawful { AreLawful self.now.events }
     {
         bytes_of(&self.areas, area)
+    }
+
+    /// How many calls its record has: each but those that failed and did nothing.
+    pub fn calls(&self) -> u64
+        ensures { result ≡ length self.now.events }
+    {
+        self.calls.len() as u64
+    }
+
+    /// The disk as it is found after a crash right behind the first `calls` of its recorded calls,
+    /// or behind all of them where there are fewer: one of the images that such a crash may leave,
+    /// by what became of the writes and cuts that were not synced.
+    ///
+    /// Nothing that is found can be lost any more. The found disk counts its calls from 1 again,
+    /// those whose numbers are in `failing` fail, and it has the room that a call leaves which takes
+    /// memory.
+    pub fn after_crash(
+        &self,
+        alloc: Global,
+        calls: u64,
+        unsynced: Unsynced,
+        failing: Vec<u64>,
+    ) -> Result<MemoryDisk, AllocError>
+        ensures left { IfOk result (λ d. (area : ℕ) → content d.events area ≡ left_by unsynced (first_calls calls self.now.events) area) }
+        ensures image { IfOk result (λ d. IsImage (first_calls calls self.now.events) (content d.events)) }
+        ensures since { IfOk result (λ d. (t : ℕ) → t ≤ calls → t ≤ length self.now.events → LeftSince self.now.events t (content d.events)) }
+        ensures absent { IfOk result (λ d. unsynced ≡ Absent → (area : ℕ) → content d.events area ≡ synced area (first_calls calls self.now.events)) }
+        ensures zeros { IfOk result (λ d. unsynced ≡ Zeros → (area : ℕ) → IsFilled 0 area (first_calls calls self.now.events) (content d.events area)) }
+        ensures ones { IfOk result (λ d. unsynced ≡ Ones → (area : ℕ) → IsFilled 255 area (first_calls calls self.now.events) (content d.events area)) }
+        ensures durable { IfOk result (λ d. (area : ℕ) → IsDurable area (content d.events area) (told_by d.events)) }
+        ensures lawful { IfOk result (λ d. AreLawful d.events) }
+        ensures counts { IfOk result (λ d. (d.failing ≡ failing.items) × (d.made ≡ 0) × (d.faults ≡ 0)) }
+        ensures room { IfOk result (λ d. HasRoom d) }
+    {
+        let areas = self.calls.left_by(alloc, calls, unsynced)?;
+        let calls = record_of(alloc, &areas)?;
+        Ok(MemoryDisk {
+            alloc,
+            areas,
+            calls,
+            failing,
+            made: 0,
+            faults: 0,
+        })
     }
 }
 

@@ -24,7 +24,7 @@ returns-then-bytes-len-clause-room c past =
     c.saturating_add-room.ensures ∙ ap (λ (n : ℕ). min (n + length c.args.bytes.now) (2 ^ 64 - 1)) c.saturating_add.ensures ∙ ap more (c.room_of.ensures ∙ ap (λ (l : List Area). min (4096 + held l) (2 ^ 64 - 1)) c.deref-then-bytes-len.ensures.value) in
     let begins : c.args.at ≤ length (content c.self.inside.calls.events c.args.area) = subst (λ (d : DiskView). c.args.at ≤ length (content d.events c.args.area)) (sym c.self.view_is) c.requires in
     let room = lengthened c.self.inside.areas.items c.saturating_add-room.result c.args.area c.args.at c.args.bytes.now c.self.inside.calls c.reserve.new.self c.write-then-bytes-len.new.self c.self.invariant.holds begins is c.in_ok-reserve.ensures.fits c.in_ok-reserve.ensures.ok c.write-then-bytes-len.ensures in
-    record { for_calls = room.0; for_bytes = room.1 }
+    record { for_calls = room.0; for_bytes = room.1; for_areas = room.2 }
 
 pub returns-clause-in_part : goal.returns-clause-in_part
 returns-clause-in_part c =

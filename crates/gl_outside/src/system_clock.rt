@@ -1,0 +1,51 @@
+// The system's clock.
+ghost use Rattle.std.specs.Prelude.{◌≡◌, None};
+
+use crate::clock::Clock;
+use crate::listed::count_one;
+use std::time;
+use std::time::{SystemTime, UNIX_EPOCH};
+
+/// The system's clock, which tells nothing. Where it can't be read it gives the last moment again.
+#[derive(Drop)]
+pub struct SystemClock<R: time::Clock> {
+    rt: R,
+    last: u64,
+    faults: u64,
+}
+
+impl<R: time::Clock> SystemClock<R> {
+    pub fn new(rt: R) -> SystemClock<R> {
+        SystemClock {
+            rt,
+            last: 0,
+            faults: 0,
+        }
+    }
+
+    /// How often it couldn't be read; it stays at 2^64 - 1.
+    pub fn faults(&self) -> u64
+        ensures { result ≡ self.now.faults }
+    {
+        self.faults
+    }
+}
+
+impl<R: time::Clock> Clock for SystemClock<R> {
+    ghost moments = { λ _. None };
+
+    fn now_ms(&mut self) -> u64 {
+        match read_ms(&self.rt) {
+            Some(now) => self.last = now,
+            None => count_one(&mut self.faults),
+        }
+        self.last
+    }
+}
+
+// The milliseconds since 1970; none where the clock can't be read, or stands before that.
+fn read_ms<R: time::Clock>(rt: &R) -> Option<u64> {
+    let now = SystemTime::now(rt).ok()?;
+    let since = now.duration_since(UNIX_EPOCH).ok()?;
+    u64::try_from(since.as_millis()).ok()
+}

@@ -1,0 +1,155 @@
+// TCP connections, one after another.
+ghost use Rattle.std.specs.Prelude.{◌≡◌};
+ghost use Rattle.gl_base.specs.Counts.{HasCause};
+ghost use Rattle.gl_outside.specs.declared.fault.Outside.TheVariants.{Failed};
+
+use crate::listed::count_one;
+use crate::{Outside, ReaderSource, WriterSink};
+use gl_base::Text;
+use std::alloc::Global;
+use std::fmt::Write;
+use std::io::{ErrorKind, Read};
+use std::net::{Ipv4Addr, Net, Shutdown, TcpListener, TcpStream};
+use std::time::Duration;
+
+// Room for each address.
+const ADDRESS_ROOM: usize = 64;
+
+// How much of what a peer still sends is read after a reply: so many pieces of so many bytes, each waited for so long.
+const MOST_PIECES: u32 = 128;
+
+const PIECE: usize = 16_384;
+
+const PIECE_WAIT_MS: u64 = 100;
+
+/// A port at which TCP connections come in.
+#[derive(Drop)]
+pub struct TcpDoor {
+    listener: TcpListener,
+    alloc: Global,
+    patience: Duration,
+    faults: u64,
+}
+
+/// What a door answers.
+#[derive(Drop)]
+pub enum Entered {
+    Connection(Connection),
+    /// None is there now.
+    Quiet,
+}
+
+/// A connection, whose two ends are a source and a sink.
+#[derive(Drop)]
+pub struct Connection {
+    stream: TcpStream,
+    peer: Text,
+}
+
+impl TcpDoor {
+    /// Listens at the port of 127.0.0.1; at port 0 the system picks one. A read or a write of a connection that waits
+    /// longer than `patience`, which is to be more than no time, fails.
+    pub fn bind<R: Net<Listener = TcpListener, Stream = TcpStream>>(
+        rt: &R,
+        alloc: Global,
+        port: u16,
+        patience: Duration,
+    ) -> Result<TcpDoor, Outside> {
+        let Ok(listener) = TcpListener::bind(rt, (Ipv4Addr::LOCALHOST, port)) else {
+            return Err(Outside::Failed);
+        };
+        if listener.set_nonblocking(true).is_err() {
+            return Err(Outside::Failed);
+        }
+        Ok(TcpDoor {
+            listener,
+            alloc,
+            patience,
+            faults: 0,
+        })
+    }
+
+    /// The port at which it listens.
+    pub fn port(&self) -> Option<u16> {
+        Some(self.listener.local_addr().ok()?.port())
+    }
+
+    /// The next connection that came in. It doesn't wait for one.
+    pub fn accept(&mut self) -> Result<Entered, Outside>
+        ensures cause { HasCause Failed self.old.faults self.new.faults result }
+    {
+        let entered = self.next();
+        if let Err(Outside::Failed) = &entered {
+            count_one(&mut self.faults);
+        }
+        entered
+    }
+
+    /// How often it has failed, which never falls; it stays at 2^64 - 1.
+    pub fn faults(&self) -> u64
+        ensures { result ≡ self.now.faults }
+    {
+        self.faults
+    }
+
+    fn next(&self) -> Result<Entered, Outside> {
+        match self.listener.accept() {
+            Ok((stream, from)) => {
+                let mut peer = String::new(self.alloc);
+                peer.reserve(ADDRESS_ROOM)?;
+                let is_set = write!(peer, "{}", from.ip()).is_ok()
+                    && stream.set_read_timeout(Some(self.patience)).is_ok()
+                    && stream.set_write_timeout(Some(self.patience)).is_ok();
+                if !is_set {
+                    return Err(Outside::Failed);
+                }
+                Ok(Entered::Connection(Connection {
+                    stream,
+                    peer: Text::from_string(peer),
+                }))
+            }
+            Err(error) => match error.kind() {
+                ErrorKind::WouldBlock | ErrorKind::Interrupted => Ok(Entered::Quiet),
+                _ => Err(Outside::Failed),
+            },
+        }
+    }
+}
+
+impl Connection {
+    /// What the peer sends.
+    pub fn source(&self) -> ReaderSource<&TcpStream> {
+        ReaderSource::new(&self.stream)
+    }
+
+    /// What the peer gets.
+    pub fn sink(&self) -> WriterSink<&TcpStream> {
+        WriterSink::new(&self.stream)
+    }
+
+    /// The address that it comes from.
+    pub fn peer(&self) -> &str {
+        self.peer.as_str()
+    }
+
+    /// Ends the connection so that a reply reaches its peer: the system throws away what wasn't sent yet where bytes that
+    /// came are unread as a socket is closed. So this side is shut first, and what still comes is read, at most 2 MiB and
+    /// for some twelve seconds. A fault here comes after the reply, and isn't told.
+    pub fn hang_up(self) {
+        let mut stream = &self.stream;
+        if stream.shutdown(Shutdown::Write).is_err()
+            || stream
+                .set_read_timeout(Some(Duration::from_millis(PIECE_WAIT_MS)))
+                .is_err()
+        {
+            return;
+        }
+        let mut piece = [0u8; PIECE];
+        for _ in 0..MOST_PIECES {
+            match stream.read(&mut piece) {
+                Ok(count) if count > 0 => {}
+                _ => return,
+            }
+        }
+    }
+}
