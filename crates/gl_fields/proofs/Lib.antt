@@ -2,5 +2,11 @@ pub mod Names
 pub mod Rising
 pub mod Placing
 pub mod Setting
+pub mod OutcomeRead
 pub mod Peel
 pub mod ReadBack
+pub mod EntryRead
+pub mod FieldRead
+pub mod Growing
+pub mod Many
+pub mod Taking

@@ -78,15 +78,15 @@ size-before name field fields at e parts =
 
 -- what stands where nothing is refused
 
-abbrev first_cause : Bool → Bool → Bool → Bool → Option FieldRefusal
+abbrev pub first_cause : Bool → Bool → Bool → Bool → Option FieldRefusal
 first_cause named reserved many large =
     cond (not named) (Some BadFieldName) (cond reserved (Some Reserved) (cond many (Some TooManyFields) (cond large (Some TooLarge) None)))
 
-record Fine (named reserved many large : Bool) : Type 0 where
-  is_named : named ≡ true
-  not_reserved : reserved ≡ false
-  not_many : many ≡ false
-  not_large : large ≡ false
+pub record Fine (named reserved many large : Bool) : Type 0 where
+  pub is_named : named ≡ true
+  pub not_reserved : reserved ≡ false
+  pub not_many : many ≡ false
+  pub not_large : large ≡ false
 
 fine-from : (named reserved many large : Bool) → first_cause named reserved many large ≡ None → Fine named reserved many large
 fine-from true false false false e = record { is_named = refl; not_reserved = refl; not_many = refl; not_large = refl }
@@ -95,14 +95,14 @@ fine-from true false true large e = cc
 fine-from true true many large e = cc
 fine-from false reserved many large e = cc
 
-none-from : (named reserved many large : Bool) → Fine named reserved many large → first_cause named reserved many large ≡ None
+pub none-from : (named reserved many large : Bool) → Fine named reserved many large → first_cause named reserved many large ≡ None
 none-from named reserved many large fine = rw (fine.is_named, fine.not_reserved, fine.not_many, fine.not_large) refl
 
-abbrev is_reserved : Field → Bool
+abbrev pub is_reserved : Field → Bool
 is_reserved field = bytes_eq field.name (codes "timestamp") && is_text field.value
 
 module _ (field : Field) (fields : List Field) (none : refusal_of field fields ≡ None) where
-  fine : Fine (is_field_name field.name) (is_reserved field) (ltb 256 (length (with_field field fields))) (ltb 2097152 (counted_size (with_field field fields)))
+  pub fine : Fine (is_field_name field.name) (is_reserved field) (ltb 256 (length (with_field field fields))) (ltb 2097152 (counted_size (with_field field fields)))
   fine = fine-from (is_field_name field.name) (is_reserved field) (ltb 256 (length (with_field field fields))) (ltb 2097152 (counted_size (with_field field fields))) none
 
   pub few : length (with_field field fields) ≤ 256

@@ -3,3 +3,5 @@ pub mod Entries
 pub mod Fields
 pub mod Outcomes
 pub mod Places
+pub mod Reading
+pub mod Units

@@ -18,7 +18,7 @@ pub fn encode_entry(alloc: Global, entry: &Entry) -> Result<Vec<u8>, AllocError>
     requires bounded { IsEntry entry.now }
     ensures { IfOk result (λ bytes. bytes.items ≡ entry_bytes entry.now) }
 {
-    let mut out = Vec::new(alloc);
+    let mut out = Vec::with_capacity(alloc, entry_room(entry))?;
     match entry {
         Entry::Admin(command) => {
             out.push(1)?;
@@ -34,7 +34,7 @@ pub fn encode_outcome(alloc: Global, outcome: &Outcome) -> Result<Vec<u8>, Alloc
     requires bounded { IsOutcome outcome.now }
     ensures { IfOk result (λ bytes. bytes.items ≡ outcome_bytes outcome.now) }
 {
-    let mut out = Vec::new(alloc);
+    let mut out = Vec::with_capacity(alloc, outcome_room(outcome))?;
     match outcome {
         Outcome::Applied => out.push(16)?,
         Outcome::Stored { streams, fields } => {
@@ -56,6 +56,50 @@ pub fn law_bytes_read_back()
     ensures entries { (a b : Entry) → IsEntry a → IsEntry b → entry_bytes a ≡ entry_bytes b → a ≡ b }
     ensures outcomes { (a b : Outcome) → IsOutcome a → IsOutcome b → outcome_bytes a ≡ outcome_bytes b → a ≡ b }
 {}
+
+// The rooms below are the lengths that the bytes will have, so that a vector never grows. No clause
+// tells of a room, and within the bounds no sum saturates.
+
+fn entry_room(entry: &Entry) -> usize {
+    match entry {
+        Entry::Admin(command) => command.as_slice().len().saturating_add(5),
+        Entry::Message(message) => message
+            .input
+            .as_str()
+            .len()
+            .saturating_add(message.peer.as_str().len())
+            .saturating_add(message.bytes.as_slice().len())
+            .saturating_add(23),
+    }
+}
+
+fn outcome_room(outcome: &Outcome) -> usize {
+    match outcome {
+        Outcome::Applied | Outcome::Dropped => 1,
+        Outcome::Stored { streams, fields } => streams
+            .as_slice()
+            .len()
+            .saturating_mul(8)
+            .saturating_add(fields_room(fields.as_slice()))
+            .saturating_add(5),
+        Outcome::Undecodable(_) => 6,
+    }
+}
+
+fn fields_room(fields: &[Field]) -> usize {
+    let mut room = 0usize;
+    for field in fields {
+        let value = match &field.value {
+            Value::Text(text) => text.as_str().len().saturating_add(5),
+            Value::Whole(_) => 9,
+        };
+        room = room
+            .saturating_add(field.name.as_str().len())
+            .saturating_add(value)
+            .saturating_add(1);
+    }
+    room
+}
 
 fn push_short_text(out: &mut Vec<u8>, text: &[u8]) -> Result<(), AllocError>
     requires { length text.now < 256 }

@@ -125,6 +125,14 @@ impl FieldMap {
         Ok(FieldMap { fields })
     }
 
+    /// The map of these fields.
+    pub(crate) fn from_fields(fields: Vec<Field>) -> FieldMap
+        requires { IsFieldMap fields.items }
+        ensures { result ≡ fields.items }
+    {
+        FieldMap { fields }
+    }
+
     /// How many fields there are, at most 256.
     pub fn len(&self) -> usize
         ensures len { result ≡ length self.now }

@@ -10,12 +10,12 @@ use crate::{Field, FieldRefusal, Value, size};
 use gl_base::Text;
 use std::alloc::AllocError;
 
-const MAX_FIELDS: usize = 256;
+pub const MAX_FIELDS: usize = 256;
 
 // In bytes, as the size of a map is.
-const MAX_NAME: usize = 255;
+pub const MAX_NAME: usize = 255;
 
-const MAX_SIZE: usize = 2_097_152;
+pub const MAX_SIZE: usize = 2_097_152;
 
 // How many free slots a full map grows by: few, since maps are kept in memory for long.
 const SPARE_SLOTS: usize = 4;
@@ -40,13 +40,13 @@ fn has_name_bytes(name: &[u8]) -> bool
     name.iter().all(|b| is_name_byte(*b))
 }
 
-fn is_field_name(name: &str) -> bool
+pub fn is_field_name(name: &str) -> bool
     ensures { result ≡ is_field_name name.now }
 {
     !name.is_empty() && name.len() <= MAX_NAME && has_name_bytes(name.as_bytes()) && name != "_id"
 }
 
-fn is_reserved(name: &str, value: &Value) -> bool
+pub fn is_reserved(name: &str, value: &Value) -> bool
     ensures { result ≡ (bytes_eq name.now (codes "timestamp") && is_text value.now) }
 {
     name == "timestamp" && value.is_text()

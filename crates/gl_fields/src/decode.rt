@@ -1,0 +1,116 @@
+// Entries and outcomes from their bytes.
+ghost use Rattle.std.specs.Prelude.{◌≡◌, ◌-◌, length, IfOk, Ok};
+ghost use Rattle.gl_fields.specs.declared.entry.Entry.{Entry};
+ghost use Rattle.gl_fields.specs.Entries.{entry_bytes};
+ghost use Rattle.gl_fields.specs.Bounds.{IsEntry};
+ghost use Rattle.gl_fields.specs.Units.{Answers, Gives};
+ghost use Rattle.gl_fields.specs.Reading.{message_at, command_at, payload_at, entry_at, entry_of};
+
+use crate::units::{self, Unread};
+use crate::{Entry, Message};
+use gl_base::Items;
+use std::alloc::Global;
+
+const MAX_INPUT: u8 = 64;
+
+const MAX_PEER: u8 = 255;
+
+/// The last millisecond of the year 9999.
+const MAX_MOMENT: u64 = 253_402_300_799_999;
+
+const MAX_PAYLOAD: u32 = 1_048_576;
+
+const MAX_COMMAND: u32 = 4_194_299;
+
+/// Why bytes aren't those of an entry, or of an outcome.
+#[derive(Clone, Copy, Debug, PartialEq, Eq)]
+pub enum EntryRefusal {
+    /// The place of the first part that isn't lawful behind those before it: a sign, a count, a
+    /// length, a number or a text. Bytes that end too early have it at the part that is cut short, and
+    /// bytes that go on behind a whole entry at the first byte too many.
+    NotAnEntry { at: u64 },
+    OutOfMemory,
+}
+
+/// The entry whose bytes these are, and nothing else.
+pub fn decode_entry(alloc: Global, bytes: &[u8]) -> Result<Entry, EntryRefusal>
+    // What is read has just these bytes.
+    ensures found { IfOk result (λ e. IsEntry e × (bytes.now ≡ entry_bytes e)) }
+    // The bytes of an entry are read as that entry.
+    ensures only { (e : Entry) → IsEntry e → bytes.now ≡ entry_bytes e → Answers result (Ok e) }
+    // Which place it is.
+    ensures place { Answers result (entry_of bytes.now) }
+{
+    whole_entry(alloc, bytes)
+}
+
+#[tactic(auto, unfolding(crate::specs::Reading::entry_of))]
+fn whole_entry(alloc: Global, bytes: &[u8]) -> Result<Entry, EntryRefusal>
+    ensures { Answers result (entry_of bytes.now) }
+{
+    match entry_at(alloc, bytes) {
+        Ok((entry, rest)) => {
+            if !rest.is_empty() {
+                return Err(not_an_entry(bytes, rest.len()));
+            }
+            Ok(entry)
+        }
+        Err(Unread::At { left }) => Err(not_an_entry(bytes, left)),
+        Err(Unread::OutOfMemory) => Err(EntryRefusal::OutOfMemory),
+    }
+}
+
+pub fn not_an_entry(bytes: &[u8], left: usize) -> EntryRefusal
+    ensures { result ≡ EntryRefusal.NotAnEntry (length bytes.now - left) }
+{
+    EntryRefusal::NotAnEntry {
+        at: bytes.len().saturating_sub(left) as u64,
+    }
+}
+
+#[tactic(auto, unfolding(crate::specs::Reading::entry_at))]
+fn entry_at(alloc: Global, bytes: &[u8]) -> Result<(Entry, &[u8]), Unread>
+    ensures { Gives (λ x. (x.0, x.1.now)) result (entry_at bytes.now) }
+{
+    let (sign, rest) = units::byte_at(bytes, 1, 2)?;
+    if sign == 1 {
+        command_at(alloc, rest)
+    } else {
+        payload_at(alloc, rest)
+    }
+}
+
+#[tactic(auto, unfolding(crate::specs::Reading::command_at))]
+fn command_at(alloc: Global, bytes: &[u8]) -> Result<(Entry, &[u8]), Unread>
+    ensures { Gives (λ x. (x.0, x.1.now)) result (command_at bytes.now) }
+{
+    let (command, rest) = units::long_bytes_at(bytes, 0, MAX_COMMAND)?;
+    Ok((Entry::Admin(Items::from_slice(alloc, command)?), rest))
+}
+
+#[tactic(auto, unfolding(crate::specs::Reading::payload_at))]
+fn payload_at(alloc: Global, bytes: &[u8]) -> Result<(Entry, &[u8]), Unread>
+    ensures { Gives (λ x. (x.0, x.1.now)) result (payload_at bytes.now) }
+{
+    let (message, rest) = message_at(alloc, bytes)?;
+    Ok((Entry::Message(message), rest))
+}
+
+#[tactic(auto, unfolding(crate::specs::Reading::message_at))]
+fn message_at(alloc: Global, bytes: &[u8]) -> Result<(Message, &[u8]), Unread>
+    ensures { Gives (λ x. (x.0, x.1.now)) result (message_at bytes.now) }
+{
+    let (input, rest) = units::short_text_at(alloc, bytes, MAX_INPUT)?;
+    let (peer, rest) = units::short_text_at(alloc, rest, MAX_PEER)?;
+    let (moment, rest) = units::u64_at(rest, MAX_MOMENT)?;
+    let (version, rest) = units::u64_at(rest, u64::MAX)?;
+    let (payload, rest) = units::long_bytes_at(rest, 1, MAX_PAYLOAD)?;
+    let message = Message {
+        input,
+        peer,
+        moment,
+        version,
+        bytes: Items::from_slice(alloc, payload)?,
+    };
+    Ok((message, rest))
+}
