@@ -13,7 +13,7 @@ use Rattle.gl_gatelog.specs.Gate.{IsOpened, ClosedOrOpened, Waits, StillWaits}
 use Rattle.gl_gatelog.specs.Log.{area_of, Place, begin, log_end, next, next_by, last_segment, places_from, bytes_of, end_of, same_segment, behind_batch}
 use Rattle.gl_gatelog.specs.View.{GateView, batch_of, has_long, appended}
 use Rattle.gl_gatelog.specs.Stand.{StandsOn, BeforeOrWith}
-use Rattle.gl_gatelog.proofs.Chain.{end_within, end_snoc}
+use Rattle.gl_gatelog.proofs.Chain.{end_snoc}
 use Rattle.gl_gatelog.proofs.Steps.{closed_log, opened_log, next_waits, shut_or_none}
 
 short_head : (r : List ℕ) (rest : Batch) → has_long (r ∷ rest) ≡ false → (length r ≤ 2 ^ 22) × (has_long rest ≡ false)
@@ -30,13 +30,13 @@ lawful records some few none = record {
   short = all_short (batch_of records) none;
 }
 
-places_snoc : (log : Log) (s : ℕ) (place : Place) (batches : List Batch) (b : Batch) → places_from log s place (batches ++ b ∷ []) ≡ places_from log s place batches ++ replicate (length b) (end_of log s place batches)
+pub places_snoc : (log : Log) (s : ℕ) (place : Place) (batches : List Batch) (b : Batch) → places_from log s place (batches ++ b ∷ []) ≡ places_from log s place batches ++ replicate (length b) (end_of log s place batches)
 places_snoc log s place [] b = append-nil (replicate (length b) place)
 places_snoc log s place (c ∷ batches) b =
     ap (λ (l : List Place). replicate (length c) place ++ l) (places_snoc log s (next log s place c) batches b)
     ∙ sym (append_assoc (replicate (length c) place) (places_from log s (next log s place c) batches) (replicate (length b) (end_of log s (next log s place c) batches)))
 
-bytes_snoc : (batches : List Batch) (b : Batch) → bytes_of (batches ++ b ∷ []) ≡ bytes_of batches + size b
+pub bytes_snoc : (batches : List Batch) (b : Batch) → bytes_of (batches ++ b ∷ []) ≡ bytes_of batches + size b
 bytes_snoc [] b = omega arith
 bytes_snoc (c ∷ batches) b = omega (arith, bytes_snoc batches b)
 

@@ -3,5 +3,9 @@ pub mod Fault
 pub mod Gate
 pub mod Inside
 pub mod Log
+pub mod Position
+pub mod Progress
+pub mod Reader
+pub mod Reading
 pub mod Stand
 pub mod View

@@ -37,6 +37,10 @@ pub record IsBegun (log : Log) (segment_size : ℕ) (old new : Image) : Type 0 w
   pub elsewhere : (b : ℕ) → b ≢ area_of log 0 → new b ≡ old b
   pub fresh_or_begun : IsFresh log new ⊎ LogAlone log segment_size [] new
 
+-- no area but this one has changed
+abbrev pub IsSameBut : ℕ → Image → Image → Type 0
+IsSameBut area old new = (b : ℕ) → b ≢ area → new b ≡ old b
+
 -- each area of the log but its first is empty, in every image
 abbrev pub IsEmptyBehind : Log → DiskState → Type 0
 IsEmptyBehind log disk = (c : Image) → disk.may_leave c → (segment : ℕ) → 0 < segment → segment ≤ last_segment log → c (area_of log segment) ≡ []

@@ -7,6 +7,7 @@ ghost use Rattle.gl_gatelog.specs.declared.kind.LogFault.TheVariants.{DiskFault,
 ghost use Rattle.gl_gatelog.specs.Batch.{Batch, size, body};
 ghost use Rattle.gl_gatelog.specs.Log.{LogIs, area_of, next_by, same_segment, last_segment};
 ghost use Rattle.gl_gatelog.specs.Stand.{StandsOn, IsReady, BeforeOrWith, IsEmptyBehind, LeftByOpening};
+ghost use Rattle.gl_gatelog.specs.Reading.{Reading, ReadsAs};
 ghost use Rattle.gl_gatelog.specs.View.{GateView, batch_of, refusal, has_long, appended, refused, begun};
 
 use crate::batch::{body_len, encode, encode_begin};
@@ -18,20 +19,21 @@ use std::marker::Model;
 
 const LAST_SEGMENT: u32 = 1_999_999_999;
 
-const BEGIN_SIZE: u64 = 25;
+/// How many bytes a begin batch takes.
+pub const BEGIN_SIZE: u64 = 25;
 
 #[derive(Drop)]
 pub struct GateLog {
-    alloc: Global,
-    log: Log,
-    segment_size: u64,
-    limit: u64,
-    segment: u32,
-    byte: u64,
-    gated: bool,
-    places: Vec<(u32, u64)>,
-    bytes: u64,
-    stopped: bool,
+    pub(crate) alloc: Global,
+    pub(crate) log: Log,
+    pub(crate) segment_size: u64,
+    pub(crate) limit: u64,
+    pub(crate) segment: u32,
+    pub(crate) byte: u64,
+    pub(crate) gated: bool,
+    pub(crate) places: Vec<(u32, u64)>,
+    pub(crate) bytes: u64,
+    pub(crate) stopped: bool,
 }
 
 impl Model for GateLog {
@@ -199,13 +201,20 @@ impl GateLog {
     }
 }
 
+/// An image reads as just one thing: no batch, a whole log with one segment size and the same batches whoever reads them,
+/// or a log that is broken at one place.
+pub fn law_one_reading()
+    ensures some { (log : Log) (image : Image) → (r : Reading) × ReadsAs log image r }
+    ensures one { (log : Log) (image : Image) (r t : Reading) → ReadsAs log image r → ReadsAs log image t → r ≡ t }
+{}
+
 /// An image has one log: with one segment size, and the same batches whoever reads them.
 pub fn law_one_log()
     ensures { (log : Log) (s t : ℕ) (a b : List Batch) (image : Image) → LogIs log s a image → LogIs log t b image → (s ≡ t) × (a ≡ b) }
 {}
 
-// The number of the area of a log's segment.
-fn area_number(log: Log, segment: u32) -> u32
+/// The number of the area of a log's segment.
+pub fn area_number(log: Log, segment: u32) -> u32
     requires { segment ≤ 1999999999 }
     ensures { result ≡ area_of log segment }
 {
@@ -225,8 +234,14 @@ fn last_of(log: Log) -> u32
     }
 }
 
-// Where the batch behind one of this size begins, and whether a gate stands there.
-fn next_place(log: Log, segment_size: u64, segment: u32, byte: u64, size: u64) -> (u32, u64, bool)
+/// Where the batch behind one of this size begins, and whether a gate stands there.
+pub fn next_place(
+    log: Log,
+    segment_size: u64,
+    segment: u32,
+    byte: u64,
+    size: u64,
+) -> (u32, u64, bool)
     requires fits { byte + size < 2 ^ 64 }
     requires segment { segment ≤ 1999999999 }
     ensures place { (result.0, result.1) ≡ next_by log segment_size (segment, byte) size }
@@ -243,8 +258,8 @@ fn next_place(log: Log, segment_size: u64, segment: u32, byte: u64, size: u64) -
     }
 }
 
-// Puts a place this often behind the others.
-fn fill(places: &mut Vec<(u32, u64)>, place: (u32, u64), count: usize)
+/// Puts a place this often behind the others.
+pub fn fill(places: &mut Vec<(u32, u64)>, place: (u32, u64), count: usize)
     requires { length places.old.items + count ≤ vec_capacity places.old }
     ensures { places.new.items ≡ places.old.items ++ replicate count place }
 {

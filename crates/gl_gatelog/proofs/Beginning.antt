@@ -1,6 +1,8 @@
 -- The begin batch of a new log.
-use Rattle.std.proofs.Common.{◌≡◌, ◌≢◌, inl, inr, ⊎_elim, ℕ, ◌+◌, ◌^◌, ◌≤◌, ◌<◌, List, [], ◌∷◌, length, take, drop, get_or, refl, sym, ◌∙◌, ap, arith, Bool, true, false, if◌then◌else◌}
-use Rattle.std.proofs.lemmas.List.{take-take, take_at, length-drop, length-take, get_or-take, get_or-drop, get_or_at}
+use Rattle.std.proofs.Common.{◌≡◌, ◌≢◌, inl, inr, ⊎_elim, ℕ, ◌+◌, ◌^◌, ◌≤◌, ◌<◌, List, [], ◌∷◌, ◌++◌, length, take, drop, get_or, refl, sym, ◌∙◌, ap, arith, Bool, true, false, if◌then◌else◌}
+use Rattle.std.specs.Int.{to_be_bytes, from_be_bytes, w64}
+use Rattle.std.proofs.lemmas.Nat.{from_be_bytes-to_be_bytes_8}
+use Rattle.std.proofs.lemmas.List.{take-append-drop, take-take, take_at, length-drop, length-take, get_or-take, get_or-drop, get_or_at}
 use Rattle.std.proofs.lemmas.List.Elements.{All-nil, All-cons}
 use Rattle.gl_outside.specs.Disk.{Image, DiskState, InArea, After, Follows}
 use Rattle.gl_gatelog.specs.declared.kind.Log.{Log}
@@ -86,3 +88,15 @@ module _ (log : Log) (s : ℕ) (sized : IsSegmentSize s) (d0 d1 : DiskState) (em
     places = refl;
     bytes = omega arith;
   }
+
+-- the begin batch is what its area begins with
+begins_with : (area : List ℕ) (log : Log) (s : ℕ) → BatchAt area 0 (begin log s) → drop 0 area ≡ opened (begin log s) ++ drop 25 (drop 0 area)
+begins_with area log s is = sym (take-append-drop 25 (drop 0 area)) ∙ ap (λ (l : List ℕ). l ++ drop 25 (drop 0 area)) is.bytes
+
+pub size_bytes : (area : List ℕ) (log : Log) (s : ℕ) → BatchAt area 0 (begin log s) → take 8 (drop 17 area) ≡ to_be_bytes w64 s
+size_bytes area log s is = ap (λ (l : List ℕ). take 8 (drop 17 l)) (begins_with area log s is)
+
+-- the segment size that is read there is the one that it records
+pub recorded_is : (area : List ℕ) (log : Log) (s size : ℕ) → s ≤ 2 ^ 30 → size < 2 ^ 64 → BatchAt area 0 (begin log s) → to_be_bytes w64 size ≡ take 8 (drop 17 area) → size ≡ s
+recorded_is area log s size most fits is reads =
+    sym (from_be_bytes-to_be_bytes_8 size fits) ∙ ap (λ (l : List ℕ). from_be_bytes w64 l) (reads ∙ size_bytes area log s is) ∙ from_be_bytes-to_be_bytes_8 s (omega (arith, most))
