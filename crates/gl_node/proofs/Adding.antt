@@ -48,7 +48,7 @@ get_last (entry ∷ journal) last found (suc position) is = ⊎_elim
     inr (omega (arith, at.0), at.1) in p)
     (get_last journal last found position is)
 
-lawful_more : (journal : List Entry) (entry : Entry) → IsLawful journal → MayFollow journal entry → IsLawful (journal ++ entry ∷ [])
+pub lawful_more : (journal : List Entry) (entry : Entry) → IsLawful journal → MayFollow journal entry → IsLawful (journal ++ entry ∷ [])
 lawful_more journal entry lawful follows position found is = ⊎_elim
     (λ before. subst (λ (es : List Entry). MayFollow es found) (sym (take-append-le position journal (entry ∷ []) (omega (arith, before.0)))) (lawful position found before.1))
     (λ at. subst (λ (es : List Entry). MayFollow es found) (sym (whole at.0)) (subst (λ (e : Entry). MayFollow journal e) at.1 follows))
@@ -58,7 +58,7 @@ lawful_more journal entry lawful follows position found is = ⊎_elim
     whole at = ap (λ (n : ℕ). take n (journal ++ entry ∷ [])) at ∙ take-append_seam journal (entry ∷ [])
 
 module _ (s : State) (entry : Entry) where
-  outcomes_stay : commit_count s ≤ length s.journal → outcomes (happened s (Added entry)) ≡ outcomes s
+  pub outcomes_stay : commit_count s ≤ length s.journal → outcomes (happened s (Added entry)) ≡ outcomes s
   outcomes_stay few =
       ap (λ (es : List Entry). s.base.found ++ map (outcome_of (s.journal ++ entry ∷ [])) (drop (length s.base.found) es)) (take-append-le (commit_count s) s.journal (entry ∷ []) few)
       ∙ ap (λ (os : List Outcome). s.base.found ++ os) (map-same s.journal (entry ∷ []) (drop (length s.base.found) (take (commit_count s) s.journal)))
@@ -107,10 +107,10 @@ module _ (s : State) (entry : Entry) where
   index_size_stays lie = ap (λ (n : ℕ). s.base.index_bytes + n) (batches_stay s.committed lie)
 
 module _ (node : Node) (s : State) (entry : Entry) (keeps : Keeps node s) (follows : MayFollow node.entries.items entry) where
-  follows_here : MayFollow s.journal entry
+  pub follows_here : MayFollow s.journal entry
   follows_here = subst (λ (es : List Entry). MayFollow es entry) keeps.entries follows
 
-  few : commit_count s ≤ length s.journal
+  pub few : commit_count s ≤ length s.journal
   few = omega (arith, keeps.tiled.committed, keeps.tiled.within)
 
   -- the ranges that came in lie in the journal
@@ -164,3 +164,24 @@ module _ (node : Node) (s : State) (entry : Entry) (keeps : Keeps node s) (follo
         };
         running = λ runs. (ap (λ (v : GateView). v.stopped) is ∙ (keeps.running runs).0, (keeps.running runs).1);
       }
+
+-- the same, with room for more entries
+pub keeps_roomy : (node : Node) (s : State) (entries : Vec Entry Global) → Keeps node s → entries.items ≡ node.entries.items → Keeps (record node { entries = entries }) s
+keeps_roomy node s entries keeps is = record {
+  entries = is ∙ keeps.entries;
+  outcomes_are = keeps.outcomes_are;
+  config = keeps.config;
+  lawful = keeps.lawful;
+  bounded = keeps.bounded;
+  committed = keeps.committed;
+  held = keeps.held;
+  waiting = keeps.waiting;
+  ranges = keeps.ranges;
+  room = keeps.room;
+  tiled = keeps.tiled;
+  grown = keeps.grown;
+  committed_lie = keeps.committed_lie;
+  journal_log = keeps.journal_log;
+  index_log = keeps.index_log;
+  running = keeps.running;
+}

@@ -22,7 +22,7 @@ use Rattle.gl_node.specs.Node.{Store, StoreOn}
 two_logs : Journal ≢ Index
 two_logs same = cc same
 
-apart : (a b : Log) → a ≡ Journal → b ≡ Index → a ≢ b
+pub apart : (a b : Log) → a ≡ Journal → b ≡ Index → a ≢ b
 apart a b is_journal is_index same = two_logs (sym is_journal ∙ same ∙ is_index)
 
 -- a batch is refused exactly where it would pass the limit
@@ -31,26 +31,26 @@ full_or_not : (full : Bool) (bytes limit : ℕ) (P : Type 0) (Q : LogFault → T
 full_or_not true bytes limit P Q h = inl (refl, h)
 full_or_not false bytes limit P Q h = inr (refl, h)
 
-verdict : (view : GateView) (batch : Batch) (P : Type 0) (Q : LogFault → Type 0) → view.stopped ≡ false → has_long batch ≡ false → MatchOption (refusal view batch) P Q
+pub verdict : (view : GateView) (batch : Batch) (P : Type 0) (Q : LogFault → Type 0) → view.stopped ≡ false → has_long batch ≡ false → MatchOption (refusal view batch) P Q
     → ((ltb view.limit (view.bytes + size batch) ≡ true) × Q (LogFull view.bytes view.limit)) ⊎ ((ltb view.limit (view.bytes + size batch) ≡ false) × P)
 verdict view batch P Q runs short cause =
     full_or_not (ltb view.limit (view.bytes + size batch)) view.bytes view.limit P Q
     (subst (λ (long : Bool). MatchOption (cond long (Some RecordTooLong) (cond (ltb view.limit (view.bytes + size batch)) (Some (LogFull view.bytes view.limit)) None)) P Q) short
     (subst (λ (stopped : Bool). MatchOption (cond stopped (Some Stopped) (cond (has_long batch) (Some RecordTooLong) (cond (ltb view.limit (view.bytes + size batch)) (Some (LogFull view.bytes view.limit)) None))) P Q) runs cause))
 
+pub within_limit : (bytes limit : ℕ) → ltb limit bytes ≡ false → nat_le bytes limit ≡ true
+within_limit bytes limit h = grind (arith, nat_tests)
+
 module _ (view : GateView) (batch : Batch) (X : Type 0) (runs : view.stopped ≡ false) (short : has_long batch ≡ false) where
   pub fitted : (n : ℕ) (result : Result ℕ LogFault) → result ≡ Ok n
       → MatchOption (refusal view batch) (IfErr result (λ e. (e ≡ DiskFault) ⊎ (e ≡ OutOfMemory))) (λ e. (result ≡ Err e) × X) → nat_le (view.bytes + size batch) view.limit ≡ true
   fitted n result is cause = ⊎_elim
       (λ full. absurd (ok_or n result (LogFull view.bytes view.limit) is full.1.0))
-      (λ fits. no_more (view.bytes + size batch) view.limit fits.0)
+      (λ fits. within_limit (view.bytes + size batch) view.limit fits.0)
       (verdict view batch _ _ runs short cause)
     where
       ok_or : (m : ℕ) (r : Result ℕ LogFault) (e : LogFault) → r ≡ Ok m → r ≡ Err e → ⊥
       ok_or m r e ok err = cc (ok, err)
-
-      no_more : (a b : ℕ) → ltb b a ≡ false → nat_le a b ≡ true
-      no_more a b h = grind (arith, nat_tests)
 
   pub was_full : (bytes limit : ℕ) (result : Result ℕ LogFault) → result ≡ Err (LogFull bytes limit)
       → MatchOption (refusal view batch) (IfErr result (λ e. (e ≡ DiskFault) ⊎ (e ≡ OutOfMemory))) (λ e. (result ≡ Err e) × X)
@@ -91,6 +91,11 @@ journal_ready journal index d0 d1 is_journal is_index elsewhere ready gated =
     subst (λ (area : List ℕ). journal.place.1 < length area) (sym (elsewhere (area_of journal.log journal.place.0)
     (other_area index.log journal.log (apart journal.log index.log is_journal is_index) journal.place.0 index.place.0))) (ready gated)
 
+-- the records, with one batch more
+pub records_with : (batches : List Batch) (batch : Batch) (records : List (List ℕ)) → records_of batches ≡ records → records_of (batches ++ batch ∷ []) ≡ records ++ batch
+records_with batches batch records is =
+    flat_map-append (λ (b : Batch). b) batches (batch ∷ []) ∙ ap (λ rs. records_of batches ++ rs) (append-nil batch) ∙ ap (λ rs. rs ++ batch) is
+
 module _ (store : Store) (d0 d1 : DiskState) (is_journal : store.journal.log ≡ Journal) (is_index : store.index.log ≡ Index) (on : StoreOn store d0) where
   journal_stands : (batch : Batch) → LeavesOnly d0 d1 (BeforeOrWith store.index on.index_batches batch d0) → StandsOn store.journal on.journal_batches d1
   journal_stands batch run = other_stands store.index.log store.journal on.journal_batches d0 d1 (apart store.journal.log store.index.log is_journal is_index)
@@ -110,9 +115,7 @@ module _ (store : Store) (d0 d1 : DiskState) (is_journal : store.journal.log ≡
     journal = journal_stands batch run;
     index = stands;
     entries = on.entries;
-    outcomes = flat_map-append (λ (b : Batch). b) on.index_batches (batch ∷ [])
-        ∙ ap (λ rs. records_of on.index_batches ++ rs) (append-nil batch)
-        ∙ ap (λ rs. rs ++ batch) on.outcomes
+    outcomes = records_with on.index_batches batch (map outcome_bytes store.outcomes) on.outcomes
         ∙ ap (λ rs. map outcome_bytes store.outcomes ++ rs) batch_is
         ∙ sym (map-append outcome_bytes store.outcomes more)
         ∙ ap (λ os. map outcome_bytes os) (sym all_is);
@@ -130,3 +133,11 @@ module _ (store : Store) (d0 d1 : DiskState) (is_journal : store.journal.log ≡
     entries = on.entries;
     outcomes = on.outcomes ∙ ap (λ os. map outcome_bytes os) (sym all_is);
   }
+
+-- after a call that left the disk alone
+pub on_unmoved : {D : Type 0} (state : D → DiskState) (old new : D) (store : Store) → new ≡ old → StoreOn store (state old) → (index : GateView) (all : List Outcome) → index ≡ store.index → all ≡ store.outcomes
+    → StoreOn (record { journal = store.journal; index = index; entries = store.entries; outcomes = all }) (state new)
+on_unmoved state old new store same on index all index_is all_is =
+    let values : store ≡ record { journal = store.journal; index = index; entries = store.entries; outcomes = all } =
+    λ i. record { journal = store.journal; index = sym index_is i; entries = store.entries; outcomes = sym all_is i } in
+    subst (λ (st : Store). StoreOn st (state new)) values (subst (λ d. StoreOn store (state d)) (sym same) on)

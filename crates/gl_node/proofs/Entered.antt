@@ -2,7 +2,6 @@
 use Rattle.std.proofs.Common.{◌≡◌, ◌≢◌, ◌⊎◌, ⊎_elim, ℕ, ◌+◌, ◌<◌, ◌≤◌, ◌^◌, Bool, true, false, if◌then◌else◌, nat_lt, List, [], ◌∷◌, ◌++◌, length, map, refl, sym, ◌∙◌, ap, subst, arith, Option, Some, None, Vec, Result, Ok, Err, IfErr, IfOk, MatchOption, not, ◌==◌}
 use Rattle.std.specs.declared.alloc.Global.{Global}
 use Rattle.std.proofs.lemmas.List.{map-append, length-append}
-use Rattle.std.proofs.lemmas.Grind.{flat_map-append}
 use Rattle.std.proofs.lemmas.Bool.Decides.{nat_tests}
 use Rattle.gl_outside.specs.Disk.{Image, DiskState, LeavesOnly}
 use Rattle.gl_outside.proofs.Moments.{at_end}
@@ -10,7 +9,7 @@ use Rattle.gl_gatelog.specs.declared.kind.Log.TheVariants.{Journal, Index}
 use Rattle.gl_gatelog.specs.declared.kind.LogFault.{LogFault}
 use Rattle.gl_gatelog.specs.declared.kind.LogFault.TheVariants.{LogFull, DiskFault, OutOfMemory}
 use Rattle.gl_gatelog.specs.Batch.{Batch, size}
-use Rattle.gl_gatelog.specs.Log.{area_of, records_of}
+use Rattle.gl_gatelog.specs.Log.{area_of}
 use Rattle.gl_gatelog.specs.View.{GateView, appended, has_long, refusal}
 use Rattle.gl_gatelog.specs.Stand.{StandsOn, IsReady, BeforeOrWith}
 use Rattle.gl_gatelog.proofs.Apart.{OnlyIn, other_area, other_stands}
@@ -32,6 +31,7 @@ use Rattle.gl_node.specs.Node.{Keeps, Store, StoreOn}
 use Rattle.gl_node.specs.Standing.{MayFollow}
 use Rattle.gl_node.specs.State.{State, state_after, entry_batch, journal_size}
 use Rattle.gl_node.proofs.Adding.{keeps_added}
+use Rattle.gl_node.proofs.Appending.{records_with}
 
 length_entry : (m : Payload) → IsPayload m → length (entry_bytes (Message m)) ≤ 2 ^ 22
 length_entry m is = simp length-append (omega (arith, is.input.few, is.peer.few, is.few))
@@ -69,7 +69,7 @@ module _ (view : GateView) (batch : Batch) (runs : view.stopped ≡ false) (shor
 
 module _ (node : Node) (s : State) (entry : Entry) (keeps : Keeps node s) where
   -- the same test, in the words of the state
-  same_test : nat_lt s.base.journal_limit (journal_size s + entry_batch entry) ≡ nat_lt node.journal.limit (node.journal.bytes + size (entry_bytes entry ∷ []))
+  pub same_test : nat_lt s.base.journal_limit (journal_size s + entry_batch entry) ≡ nat_lt node.journal.limit (node.journal.bytes + size (entry_bytes entry ∷ []))
   same_test = ap (λ (n : ℕ). nat_lt n (journal_size s + entry_batch entry)) (sym keeps.journal_log.limit_is)
       ∙ ap (λ (n : ℕ). nat_lt node.journal.limit (n + entry_batch entry)) (sym keeps.journal_log.bytes_are)
 
@@ -135,9 +135,8 @@ module _ (store : Store) (d0 d1 : DiskState) (apart : store.index.log ≢ store.
     index_batches = on.index_batches;
     journal = stands;
     index = index_stands;
-    entries = flat_map-append (λ (b : Batch). b) on.journal_batches (batch ∷ [])
-        ∙ ap (λ (b : Batch). records_of on.journal_batches ++ records_of (b ∷ [])) is
-        ∙ ap (λ (es : List (List ℕ)). es ++ entry_bytes entry ∷ []) on.entries
+    entries = records_with on.journal_batches batch (map entry_bytes store.entries) on.entries
+        ∙ ap (λ (b : Batch). map entry_bytes store.entries ++ b) is
         ∙ sym (map-append entry_bytes store.entries (entry ∷ []))
         ∙ ap (λ (es : List Entry). map entry_bytes es) (sym pushed);
     outcomes = on.outcomes;
@@ -161,20 +160,29 @@ weaker_ok : {T E : Type 0} (r : Result T E) (P Q : T → Type 0) → ((x : T) �
 weaker_ok (Ok x) P Q more is = more x is
 weaker_ok (Err e) P Q more is = tt
 
-pub answered : (node new : Node) (result : Result Arrival NodeFault) (m : Payload) (moment : ℕ) (input peer bytes : List ℕ)
-    → m ≡ record { input = input; peer = peer; moment = moment; version = node.config.version; bytes = bytes }
-    → is_input node.config input ≡ true → (length bytes == 0) ≡ false → nat_lt 1048576 (length bytes) ≡ false
-    → IfOk result (λ arrival. (s : State) → Keeps node s → (arrival ≡ entered s (Message m)) × Keeps new (state_after s (added_by (entered s (Message m)) (Message m))))
-    → IfOk result (λ arrival. (s : State) → Keeps node s → (arrival ≡ arrival_of s moment input peer bytes) × Keeps new (state_after s (arrival_events s moment input peer bytes)))
-answered node new result m moment input peer bytes is known some few =
-    weaker_ok result
-    (λ arrival. (s : State) → Keeps node s → (arrival ≡ entered s (Message m)) × Keeps new (state_after s (added_by (entered s (Message m)) (Message m))))
-    (λ arrival. (s : State) → Keeps node s → (arrival ≡ arrival_of s moment input peer bytes) × Keeps new (state_after s (arrival_events s moment input peer bytes)))
-    (λ arrival gives s keeps.
-    let version : node.config.version ≡ version_after s.journal = ap (λ (config : Config). config.version) keeps.config in
-    let entry : Message m ≡ next_entry s.journal moment input peer bytes =
-    ap (λ (p : Payload). Message p) is ∙ ap (λ (v : ℕ). Message (record { input = input; peer = peer; moment = moment; version = v; bytes = bytes })) version in
-    let known_here : is_input (config_after s.journal) input ≡ true = ap (λ (config : Config). is_input config input) (sym keeps.config) ∙ known in
-    let same = by_entering s moment input peer bytes known_here some few in
-    subst (λ (a : Arrival). (arrival ≡ a) × Keeps new (state_after s (added_by a (next_entry s.journal moment input peer bytes)))) (sym same)
-    (subst (λ (e : Entry). (arrival ≡ entered s e) × Keeps new (state_after s (added_by (entered s e) e))) entry (gives s keeps)))
+-- the same, by the message that the node makes of it
+module _ (node : Node) (m : Payload) (moment : ℕ) (input peer bytes : List ℕ)
+    (is : m ≡ record { input = input; peer = peer; moment = moment; version = node.config.version; bytes = bytes })
+    (known : is_input node.config input ≡ true) (some : (length bytes == 0) ≡ false) (few : nat_lt 1048576 (length bytes) ≡ false) where
+  module _ (s : State) (keeps : Keeps node s) where
+    entry_is : Message m ≡ next_entry s.journal moment input peer bytes
+    entry_is =
+        let version : node.config.version ≡ version_after s.journal = ap (λ (config : Config). config.version) keeps.config in
+        ap (λ (p : Payload). Message p) is ∙ ap (λ (v : ℕ). Message (record { input = input; peer = peer; moment = moment; version = v; bytes = bytes })) version
+
+    arrival_is : arrival_of s moment input peer bytes ≡ entered s (next_entry s.journal moment input peer bytes)
+    arrival_is = by_entering s moment input peer bytes (ap (λ (config : Config). is_input config input) (sym keeps.config) ∙ known) some few
+
+    pub events_are : added_by (entered s (Message m)) (Message m) ≡ arrival_events s moment input peer bytes
+    events_are = ap (λ (e : Entry). added_by (entered s e) e) entry_is ∙ ap (λ (a : Arrival). added_by a (next_entry s.journal moment input peer bytes)) (sym arrival_is)
+
+  pub answered : (new : Node) (result : Result Arrival NodeFault)
+      → IfOk result (λ arrival. (s : State) → Keeps node s → (arrival ≡ entered s (Message m)) × Keeps new (state_after s (added_by (entered s (Message m)) (Message m))))
+      → IfOk result (λ arrival. (s : State) → Keeps node s → (arrival ≡ arrival_of s moment input peer bytes) × Keeps new (state_after s (arrival_events s moment input peer bytes)))
+  answered new result =
+      weaker_ok result
+      (λ arrival. (s : State) → Keeps node s → (arrival ≡ entered s (Message m)) × Keeps new (state_after s (added_by (entered s (Message m)) (Message m))))
+      (λ arrival. (s : State) → Keeps node s → (arrival ≡ arrival_of s moment input peer bytes) × Keeps new (state_after s (arrival_events s moment input peer bytes)))
+      (λ arrival gives s keeps.
+      subst (λ (a : Arrival). (arrival ≡ a) × Keeps new (state_after s (added_by a (next_entry s.journal moment input peer bytes)))) (sym (arrival_is s keeps))
+      (subst (λ (e : Entry). (arrival ≡ entered s e) × Keeps new (state_after s (added_by (entered s e) e))) (entry_is s keeps) (gives s keeps)))

@@ -1,10 +1,12 @@
 mod Adding
 pub mod Appending
 mod Begun
+mod Chains
 mod Entered
 pub mod Finishes
 pub mod Grants
 pub mod Keeping
+mod Moments
 mod OneThread
 pub mod Outcomes
 pub mod Ready
@@ -12,3 +14,7 @@ mod Shown
 pub mod Sizes
 pub mod Steps
 pub mod Tiling
+pub mod Damages
+pub mod Taking
+pub mod Logs
+pub mod TakenUp

@@ -73,7 +73,7 @@ module _ (node : Node) (s : State) (i : ℕ) (work : Work) (k : Keeps node s) (t
   pub range_is : work.range ≡ range_of s (mark_of work.range)
   range_is = subst (λ (w : Work). w.range ≡ range_of s (mark_of w.range)) (get_or_from_slice_get node.waiting.items i work work there) (k.ranges i work in_node)
 
-  high : work.range.first + length work.range.entries ≤ node.next
+  pub high : work.range.first + length work.range.entries ≤ node.next
   high = subst (λ (m : Mark). m.first + m.count ≤ node.next) at_index (waiting_high s node.next k.tiled i (mark_of work.range) in_waiting)
 
   pub sized : (0 < length work.range.entries) × (length work.range.entries ≤ 256)

@@ -53,7 +53,7 @@ module _ (node : Node) (s : State) (at : ℕ) (work : Work) (k : Keeps node s) (
   pub few_records : length records ≤ 256
   few_records = omega (arith, count_records records work.outcomes is_batch, outcomes_len node s at work k there begins, (sized node s at work k there begins).1)
 
-  short : has_long (batch_of records) ≡ false
+  pub short : has_long (batch_of records) ≡ false
   short = ap (λ b. has_long b) is_batch ∙ none_long work.outcomes work.bounded
 
   module _ (running : IsRunning node) (X : Type 0) (result : Result ℕ LogFault)
@@ -80,6 +80,10 @@ module _ (node : Node) (s : State) (at : ℕ) (work : Work) (k : Keeps node s) (
           limit_is = full.1 ∙ k.index_log.limit_is;
           keeps = keeps_still node s all index k all_is index_is;
         }
+
+    -- where the log is full the disk was left alone
+    pub full_unmoved : (bytes limit : ℕ) → result ≡ Err (LogFull bytes limit) → X
+    full_unmoved bytes limit is = (was_full node.index (batch_of records) X (k.running running).1 short bytes limit result is cause).3
 
     pub none_other : (e : LogFault) → result ≡ Err e → ((bytes limit : ℕ) → e ≡ LogFull bytes limit → ⊥) → (e ≡ DiskFault → ⊥) → (e ≡ OutOfMemory → ⊥) → ⊥
     none_other e is = no_other node.index (batch_of records) X (k.running running).1 short e result is cause

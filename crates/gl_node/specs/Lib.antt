@@ -1,12 +1,16 @@
 pub mod Arrivals
 pub mod Bounded
 pub mod Calls
+pub mod Chains
 pub mod Claims
 pub mod Commits
 pub mod Configuration
+pub mod Damage
 pub mod Decoding
 pub mod Entering
+pub mod Moments
 pub mod Node
+pub mod Opening
 pub mod Staging
 pub mod Standing
 pub mod State

@@ -1,11 +1,11 @@
 -- What an image shows, and which store is damaged.
-use Rattle.std.specs.Prelude.{◌≡◌, ◌≢◌, ℕ, ◌<◌, ◌≤◌, ◌^◌, List, [], length, map, take, slice_get, Option, None, Some, IsTrue, ⊤}
+use Rattle.std.specs.Prelude.{◌≡◌, ◌≢◌, ℕ, ◌<◌, ◌≤◌, ◌^◌, ◌∷◌, List, [], length, map, take, slice_get, Option, None, Some, IsTrue, ⊤}
 use Rattle.std.specs.List.{All}
 use Rattle.gl_outside.specs.Disk.{Image, DiskState, IsUnchanged}
 use Rattle.gl_gatelog.specs.declared.kind.Log.{Log}
 use Rattle.gl_gatelog.specs.declared.kind.Log.TheVariants.{Journal, Index}
 use Rattle.gl_gatelog.specs.Batch.{Batch, size}
-use Rattle.gl_gatelog.specs.Log.{LogIs, area_of, begin, log_end, last_segment, records_of}
+use Rattle.gl_gatelog.specs.Log.{LogIs, area_of, begin, bytes_of, log_end, last_segment, records_of}
 use Rattle.gl_gatelog.specs.Stand.{IsFresh}
 use Rattle.gl_fields.specs.declared.entry.Entry.{Entry}
 use Rattle.gl_fields.specs.declared.entry.Entry.TheVariants.{Admin, Message}
@@ -71,6 +71,39 @@ pub record AreOptions (options : Options) : Type 0 where
   pub journal_most : options.journal_limit ≤ 2 ^ 40
   pub index_least : 4096 ≤ options.index_limit
   pub index_most : options.index_limit ≤ 2 ^ 42
+
+-- behind where its reading ends a log has nothing, in every image that the disk may leave
+abbrev pub IsAlone : Log → Option ℕ → List Batch → DiskState → Type 0
+IsAlone log segment batches disk = (c : Image) → disk.may_leave c → EndsThere log c segment batches
+
+-- the recorded segment size, or the one that is asked for where there is none
+abbrev pub segment_or : ℕ → Option ℕ → ℕ
+segment_or asked None = asked
+segment_or asked (Some recorded) = recorded
+
+-- the sum of the sizes of a log's batches, its begin batch among them, which opening writes where there is none
+abbrev pub log_bytes : Log → ℕ → List Batch → ℕ
+log_bytes log segment_size batches = bytes_of (begin log segment_size ∷ batches)
+
+-- what stands at the opening of a store
+abbrev pub base_of : Options → (image : Image) (journal : List Entry) (found : List Outcome) → Shows image journal found → Base
+base_of options image journal found shown = record {
+  journal = journal;
+  found = found;
+  journal_bytes = log_bytes Journal (segment_or options.segment shown.journal_segment) shown.journal_batches;
+  index_bytes = log_bytes Index (segment_or options.segment shown.index_segment) shown.index_batches;
+  journal_limit = options.journal_limit;
+  index_limit = options.index_limit;
+  journal_segment = segment_or options.segment shown.journal_segment;
+  index_segment = segment_or options.segment shown.index_segment;
+}
+
+-- The image shows these entries and outcomes, and in no image that the disk may leave anything stands behind the ends of
+-- its logs: so it is with an empty disk, and with each disk that a node left.
+pub record IsStore (disk : DiskState) (journal : List Entry) (found : List Outcome) : Type 0 where
+  pub shows : Shows disk.reads journal found
+  pub journal_alone : IsAlone Journal shows.journal_segment shows.journal_batches disk
+  pub index_alone : IsAlone Index shows.index_segment shows.index_batches disk
 
 -- what stands at the opening of an empty store: both logs with their begin batch alone
 abbrev pub empty_base : Options → Base

@@ -1,13 +1,14 @@
 // How work comes in, and how the ranges that are ready are committed.
 ghost use Rattle.std.specs.Prelude.{◌≡◌, ◌==◌, ◌+◌, ◌++◌, ◌<◌, ◌≤◌, ℕ, length, map, vec_len, vec_capacity, Some, slice_get, IfOk, OnOk, OnErr};
 ghost use Rattle.std.specs.List.{All, position, remove};
-ghost use Rattle.gl_outside.specs.Disk.{Tells};
+ghost use Rattle.gl_outside.specs.Disk.{Tells, LeavesOnly};
 ghost use Rattle.gl_gatelog.specs.View.{batch_of};
 ghost use Rattle.gl_fields.specs.Bounds.{IsOutcome};
 ghost use Rattle.gl_fields.specs.Outcomes.{outcome_bytes};
 ghost use Rattle.gl_node.specs.Calls.{finished_of, HasNodeCause};
 ghost use Rattle.gl_node.specs.Claims.{commits, full_or_committed, next_ready, range_of};
 ghost use Rattle.gl_node.specs.Commits.{IsStep, CommittedSome};
+ghost use Rattle.gl_node.specs.Moments.{LeftBy};
 ghost use Rattle.gl_node.specs.Node.{IsRunning, Keeps, NodeOn, NodeReady, stopped_of, store_of};
 ghost use Rattle.gl_node.specs.State.{CameIn, State, happened, state_after};
 ghost use Rattle.gl_node.specs.declared.mark.Claim.{Claim};
@@ -69,6 +70,9 @@ impl Node {
         ensures stands { Tells (D.state disk.old) → IsRunning self.new → NodeOn self.old (D.state disk.old) → NodeOn self.new (D.state disk.new) }
         ensures faults { HasNodeCause self.old self.new (D.faults disk.old) (D.faults disk.new) result }
         ensures tells { (D.state disk.new).tells ≡ (D.state disk.old).tells }
+        // A crash at any moment leaves the state after some of the ready ranges, in order.
+        ensures any_moment { Tells (D.state disk.old) → NodeOn self.old (D.state disk.old) → (s : State) → Keeps self.old s
+            → LeavesOnly (D.state disk.old) (D.state disk.new) (LeftBy s (commits s) (D.state disk.old)) }
     {
         let Ok(records) = encode_outcomes(self.alloc, self.waiting[at].outcomes.as_slice()) else {
             return Err(NodeFault::OutOfMemory);
@@ -108,6 +112,9 @@ impl Node {
         ensures stands { Tells (D.state disk.old) → IsRunning self.new → NodeOn self.old (D.state disk.old) → NodeOn self.new (D.state disk.new) }
         ensures faults { HasNodeCause self.old self.new (D.faults disk.old) (D.faults disk.new) result }
         ensures tells { (D.state disk.new).tells ≡ (D.state disk.old).tells }
+        // A crash at any moment leaves the state after some of the ready ranges, in order.
+        ensures any_moment { Tells (D.state disk.old) → NodeOn self.old (D.state disk.old) → (s : State) → Keeps self.old s
+            → LeavesOnly (D.state disk.old) (D.state disk.new) (LeftBy s (commits s) (D.state disk.old)) }
     {
         while let Some(at) = self.ready() {
             match self.commit_one(disk, at)? {

@@ -1,12 +1,13 @@
 // An entry goes into the journal.
 ghost use Rattle.std.specs.Prelude.{◌≡◌, ◌+◌, ◌≤◌, [], ◌∷◌, ◌++◌, false, length, IfOk, OnErr, vec_capacity};
-ghost use Rattle.gl_outside.specs.Disk.{Tells};
+ghost use Rattle.gl_outside.specs.Disk.{Tells, LeavesOnly};
 ghost use Rattle.gl_gatelog.specs.View.{batch_of};
 ghost use Rattle.gl_fields.specs.Bounds.{IsEntry};
 ghost use Rattle.gl_fields.specs.Entries.{entry_bytes};
 ghost use Rattle.gl_node.specs.Arrivals.{added_by};
 ghost use Rattle.gl_node.specs.Calls.{HasNodeCause};
 ghost use Rattle.gl_node.specs.Entering.{entered};
+ghost use Rattle.gl_node.specs.Moments.{LeftBy};
 ghost use Rattle.gl_node.specs.Node.{IsRunning, Keeps, NodeOn, NodeReady};
 ghost use Rattle.gl_node.specs.Standing.{MayFollow};
 ghost use Rattle.gl_node.specs.State.{State, state_after};
@@ -67,6 +68,9 @@ impl Node {
         ensures stands { Tells (D.state disk.old) → IsRunning self.new → NodeOn self.old (D.state disk.old) → NodeOn self.new (D.state disk.new) }
         ensures faults { HasNodeCause self.old self.new (D.faults disk.old) (D.faults disk.new) result }
         ensures tells { (D.state disk.new).tells ≡ (D.state disk.old).tells }
+        // A crash at any moment leaves the state as it was, or with the entry.
+        ensures any_moment { Tells (D.state disk.old) → NodeOn self.old (D.state disk.old) → (s : State) → Keeps self.old s
+            → LeavesOnly (D.state disk.old) (D.state disk.new) (LeftBy s (added_by (entered s entry) entry) (D.state disk.old)) }
     {
         let records = records_of(self.alloc, &entry)?;
         self.entries.reserve(1)?;
@@ -92,6 +96,9 @@ impl Node {
         ensures stands { Tells (D.state disk.old) → IsRunning self.new → NodeOn self.old (D.state disk.old) → NodeOn self.new (D.state disk.new) }
         ensures faults { HasNodeCause self.old self.new (D.faults disk.old) (D.faults disk.new) result }
         ensures tells { (D.state disk.new).tells ≡ (D.state disk.old).tells }
+        // A crash at any moment leaves the state as it was, or with the entry.
+        ensures any_moment { Tells (D.state disk.old) → NodeOn self.old (D.state disk.old) → (s : State) → Keeps self.old s
+            → LeavesOnly (D.state disk.old) (D.state disk.new) (LeftBy s (added_by (entered s entry) entry) (D.state disk.old)) }
     {
         match self.journal.append(disk, records) {
             Ok(position) => {

@@ -20,6 +20,8 @@ mod mark;
 mod node;
 mod opening;
 mod processing;
+mod reading;
+mod resuming;
 mod staging;
 mod work;
 
@@ -27,7 +29,7 @@ pub use answer::{Arrival, Claimed, Finished};
 pub use config::Config;
 pub use fault::{NodeFault, OpenFault};
 pub use gl_gatelog::Log;
-pub use law::law_outcomes_of_one_thread;
+pub use law::{law_longest_chain_is_committed, law_one_store, law_outcomes_of_one_thread};
 pub use mark::{Claim, Mark};
 pub use node::{Node, Options, law_images_show_the_state};
 pub use work::{Range, Work, stage_range};

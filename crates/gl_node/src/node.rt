@@ -2,12 +2,13 @@
 ghost use Rattle.std.specs.Prelude.{◌≡◌, ◌⊎◌, ◌<◌, ◌≤◌, ℕ, length, Some, None, IfOk, IfErr, OnOk, OnErr, IsErrOf, MatchResult, slice_get};
 ghost use Rattle.std.specs.Option.{option_copied};
 ghost use Rattle.gl_base.specs.Counts.{HasCause};
-ghost use Rattle.gl_outside.specs.Disk.{Image, Tells};
+ghost use Rattle.gl_outside.specs.Disk.{Image, Tells, LeavesOnly};
 ghost use Rattle.gl_gatelog.specs.declared.kind.Log.{Log};
 ghost use Rattle.gl_gatelog.specs.Log.{area_of};
 ghost use Rattle.gl_gatelog.specs.Stand.{IsEmptyBehind};
 ghost use Rattle.gl_node.specs.Arrivals.{arrival_of, arrival_events};
 ghost use Rattle.gl_node.specs.Calls.{HasNodeCause};
+ghost use Rattle.gl_node.specs.Moments.{LeftBy};
 ghost use Rattle.gl_node.specs.Node.{IsRunning, IsStoppedAt, Keeps, NodeOn, NodeReady};
 ghost use Rattle.gl_node.specs.Standing.{AreOptions, IsDamaged, IsLeft, StandsFor, empty_base};
 ghost use Rattle.gl_node.specs.State.{State, commit_count, opened, outcomes, state_after};
@@ -134,6 +135,9 @@ impl Node {
         // Once it answers, the entry is in each image that a crash may leave.
         ensures ready { Tells (D.state disk.old) → IsRunning self.new → NodeReady self.new (D.state disk.new) }
         ensures stands { Tells (D.state disk.old) → IsRunning self.new → NodeOn self.old (D.state disk.old) → NodeOn self.new (D.state disk.new) }
+        // A crash at any moment leaves the state as it was, or with the entry.
+        ensures any_moment { Tells (D.state disk.old) → NodeOn self.old (D.state disk.old) → (s : State) → Keeps self.old s
+            → LeavesOnly (D.state disk.old) (D.state disk.new) (LeftBy s (arrival_events s moment input.now peer.now bytes.now) (D.state disk.old)) }
         ensures stopped { (faults : ℕ) → IsStoppedAt self.old faults → (result ≡ Err (NodeFault.Stopped faults)) × (self.new ≡ self.old) × (disk.new ≡ disk.old) }
         ensures faults { HasNodeCause self.old self.new (D.faults disk.old) (D.faults disk.new) result }
         ensures tells { (D.state disk.new).tells ≡ (D.state disk.old).tells }

@@ -1,8 +1,9 @@
 // What processors do with a node: they claim ranges of the journal, and bring in their work.
 ghost use Rattle.std.specs.Prelude.{◌≡◌, ◌<◌, ◌≤◌, ℕ, IfOk, IfErr, OnErr};
-ghost use Rattle.gl_outside.specs.Disk.{Tells};
+ghost use Rattle.gl_outside.specs.Disk.{Tells, LeavesOnly};
 ghost use Rattle.gl_node.specs.Calls.{claimed_of, finished_of, IsFresh, IsStale, WentOn, HasNodeCause};
 ghost use Rattle.gl_node.specs.Claims.{claim_answer, claimed_by, finish_answer, finish_events, mark_of};
+ghost use Rattle.gl_node.specs.Moments.{LeftBy};
 ghost use Rattle.gl_node.specs.Node.{IsRunning, IsStoppedAt, Keeps, NodeOn, NodeReady, stopped_of, store_of};
 ghost use Rattle.gl_node.specs.State.{State, state_after};
 ghost use Rattle.gl_node.specs.declared.mark.Claim.{Claim};
@@ -75,6 +76,9 @@ impl Node {
         ensures went_on { IsRunning self.old → OnErr result ((s : State) → Keeps self.old s → IsFresh s worker work.range × WentOn s (finish_events s worker) (Keeps self.new)) }
         ensures ready { Tells (D.state disk.old) → IsRunning self.new → NodeReady self.new (D.state disk.new) }
         ensures stands { Tells (D.state disk.old) → IsRunning self.new → NodeOn self.old (D.state disk.old) → NodeOn self.new (D.state disk.new) }
+        // A crash at any moment leaves the state after some of the first of these events.
+        ensures any_moment { Tells (D.state disk.old) → NodeOn self.old (D.state disk.old) → (s : State) → Keeps self.old s
+            → LeavesOnly (D.state disk.old) (D.state disk.new) (LeftBy s (finish_events s worker) (D.state disk.old)) }
         ensures stopped { (faults : ℕ) → IsStoppedAt self.old faults → (result ≡ Err (NodeFault.Stopped faults)) × (self.new ≡ self.old) × (disk.new ≡ disk.old) }
         ensures faults { HasNodeCause self.old self.new (D.faults disk.old) (D.faults disk.new) result }
         ensures tells { (D.state disk.new).tells ≡ (D.state disk.old).tells }

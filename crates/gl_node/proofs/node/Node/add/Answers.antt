@@ -5,6 +5,7 @@ use Rattle.gl_gatelog.specs.Batch.{Batch, size}
 use Rattle.gl_gatelog.specs.View.{batch_of, appended, refused, has_long}
 use Rattle.gl_node.specs.Node.{store_of}
 use Rattle.gl_node.proofs.Entered.{is_short, fits, full, journalled, journal_full, two_logs, on_added, on_same}
+use Rattle.gl_node.proofs.Moments.{entering}
 use Rattle.gl_node.proofs.node.Node.add.Goals as goal
 
 pub returns-in-Ok-clause-answer : goal.returns-in-Ok-clause-answer
@@ -53,3 +54,23 @@ returns-in-Err-OutOfMemory-clause-stands g c tells running on =
     on_same (store_of node) d0 d1 (two_logs node.journal node.index c.requires.logs.0 c.requires.logs.1) on (batch_of c.args.records.now)
     (c.append.ensures.any_moment tells on.journal_batches on.journal)
     c.append.new.self (c.in-Err-OutOfMemory.ensures.memory tells (ap (λ (e : LogFault). Err e) c.in-Err-OutOfMemory.field-0-is) on.journal_batches on.journal)
+
+pub returns-in-Ok-clause-any_moment : goal.returns-in-Ok-clause-any_moment
+returns-in-Ok-clause-any_moment g c tells on s keeps =
+    entering g.D.Disk.state c.args.disk.now c.append.new.disk c.args.self.now s keeps on c.append.result c.args.entry (batch_of c.args.records.now) c.requires.follows c.requires.record_is c.requires.open
+    c.append.ensures.cause (c.append.ensures.any_moment tells on.journal_batches on.journal)
+
+pub returns-in-Err-LogFull-clause-any_moment : goal.returns-in-Err-LogFull-clause-any_moment
+returns-in-Err-LogFull-clause-any_moment g c tells on s keeps =
+    entering g.D.Disk.state c.args.disk.now c.append.new.disk c.args.self.now s keeps on c.append.result c.args.entry (batch_of c.args.records.now) c.requires.follows c.requires.record_is c.requires.open
+    c.append.ensures.cause (c.append.ensures.any_moment tells on.journal_batches on.journal)
+
+pub returns-in-Err-DiskFault-clause-any_moment : goal.returns-in-Err-DiskFault-clause-any_moment
+returns-in-Err-DiskFault-clause-any_moment g c tells on s keeps =
+    entering g.D.Disk.state c.args.disk.now c.append.new.disk c.args.self.now s keeps on c.append.result c.args.entry (batch_of c.args.records.now) c.requires.follows c.requires.record_is c.requires.open
+    c.append.ensures.cause (c.append.ensures.any_moment tells on.journal_batches on.journal)
+
+pub returns-in-Err-OutOfMemory-clause-any_moment : goal.returns-in-Err-OutOfMemory-clause-any_moment
+returns-in-Err-OutOfMemory-clause-any_moment g c tells on s keeps =
+    entering g.D.Disk.state c.args.disk.now c.append.new.disk c.args.self.now s keeps on c.append.result c.args.entry (batch_of c.args.records.now) c.requires.follows c.requires.record_is c.requires.open
+    c.append.ensures.cause (c.append.ensures.any_moment tells on.journal_batches on.journal)

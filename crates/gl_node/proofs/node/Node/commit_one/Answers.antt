@@ -5,9 +5,11 @@ use Rattle.gl_gatelog.specs.View.{GateView, batch_of, refused}
 use Rattle.gl_fields.specs.declared.entry.Outcome.{Outcome}
 use Rattle.gl_fields.specs.Outcomes.{outcome_bytes}
 use Rattle.gl_node.specs.declared.work.Work.{Work}
+use Rattle.gl_node.specs.Claims.{commits}
 use Rattle.gl_node.specs.Node.{store_of}
-use Rattle.gl_node.proofs.Appending.{journal_ready, on_appended, on_kept}
-use Rattle.gl_node.proofs.Steps.{on_ok, work_there, work_begins, count_records, some_records, few_records, step_committed, step_full, none_other}
+use Rattle.gl_node.proofs.Appending.{journal_ready, on_appended, on_kept, on_unmoved}
+use Rattle.gl_node.proofs.Steps.{on_ok, work_there, work_begins, count_records, some_records, few_records, step_committed, step_full, full_unmoved, none_other}
+use Rattle.gl_node.proofs.Moments.{nothing_yet, committing}
 use Rattle.gl_node.proofs.node.Node.commit_one.Goals as goal
 
 pub append-requires-clause-some : goal.append-requires-clause-some
@@ -74,6 +76,16 @@ returns-in-Err-LogFull-clause-ready g c = λ tells runs.
       c.append.ensures.ready tells (ap (λ (v : GateView). v.stopped) (c.in-Err-LogFull.ensures.value ∙ ap (λ (e : LogFault). refused c.args.self.now.index e) c.in-Err-LogFull.field-0-is) ∙ (k.running c.requires.running).1),
     )
 
+pub returns-in-Err-LogFull-clause-stands : goal.returns-in-Err-LogFull-clause-stands
+returns-in-Err-LogFull-clause-stands g c = λ tells runs on.
+    let there = work_there c.args.self.now c.args.at c.index.result.now c.requires.next c.index.ensures in
+    let begins = work_begins c.args.self.now c.args.at c.index.result.now c.requires.next c.index.ensures in
+    let batch = ap (λ (rs : List (Vec ℕ Global)). batch_of rs) c.deref.ensures.value ∙ c.in-Ok.ensures ∙ ap (λ (os : List Outcome). map outcome_bytes os) c.as_slice.ensures in
+    let same = full_unmoved c.args.self.now c.requires.keeps.0 c.args.at c.index.result.now c.requires.keeps.1 there begins c.deref.result.now batch c.requires.running _ c.append.result c.append.ensures.cause
+    c.in-Err-LogFull.bytes c.in-Err-LogFull.limit (c.in-Err-LogFull.is ∙ ap (λ (e : LogFault). Err e) c.in-Err-LogFull.field-0-is) in
+    on_unmoved g.D.Disk.state c.args.disk.now c.append.new.disk (store_of c.args.self.now) same on c.append.new.self c.reserve.new.self.items
+    (c.in-Err-LogFull.ensures.value ∙ ap (λ (e : LogFault). refused c.args.self.now.index e) c.in-Err-LogFull.field-0-is) c.reserve.ensures.items
+
 pub returns-in-Err-OutOfMemory-clause-stands : goal.returns-in-Err-OutOfMemory-clause-stands
 returns-in-Err-OutOfMemory-clause-stands g c = λ tells runs on.
     let k = c.requires.keeps.1 in
@@ -118,3 +130,37 @@ unreachable-requires-in-Err-Stopped g c =
     let batch = ap (λ (rs : List (Vec ℕ Global)). batch_of rs) c.deref.ensures.value ∙ c.in-Ok.ensures ∙ ap (λ (os : List Outcome). map outcome_bytes os) c.as_slice.ensures in
     none_other c.args.self.now c.requires.keeps.0 c.args.at c.index.result.now k there begins c.deref.result.now batch c.requires.running _ c.append.result c.append.ensures.cause
     c.in-Err-Stopped.field-0 c.in-Err-Stopped.is (λ b l h. cc (h, c.in-Err-Stopped.field-0-is)) (λ h. cc (h, c.in-Err-Stopped.field-0-is)) (λ h. cc (h, c.in-Err-Stopped.field-0-is))
+
+pub returns-in-Ok-append-clause-any_moment : goal.returns-in-Ok-append-clause-any_moment
+returns-in-Ok-append-clause-any_moment g c = λ tells on s k.
+    committing g.D.Disk.state c.args.disk.now c.append.new.disk c.args.self.now s k on c.append.result c.args.at c.index.result.now
+    (work_there c.args.self.now c.args.at c.index.result.now c.requires.next c.index.ensures) (work_begins c.args.self.now c.args.at c.index.result.now c.requires.next c.index.ensures)
+    c.deref.result.now (ap (λ (rs : List (Vec ℕ Global)). batch_of rs) c.deref.ensures.value ∙ c.in-Ok.ensures ∙ ap (λ (os : List Outcome). map outcome_bytes os) c.as_slice.ensures)
+    c.requires.running c.append.ensures.cause (c.append.ensures.any_moment tells on.index_batches on.index)
+
+pub returns-in-Err-LogFull-clause-any_moment : goal.returns-in-Err-LogFull-clause-any_moment
+returns-in-Err-LogFull-clause-any_moment g c = λ tells on s k.
+    committing g.D.Disk.state c.args.disk.now c.append.new.disk c.args.self.now s k on c.append.result c.args.at c.index.result.now
+    (work_there c.args.self.now c.args.at c.index.result.now c.requires.next c.index.ensures) (work_begins c.args.self.now c.args.at c.index.result.now c.requires.next c.index.ensures)
+    c.deref.result.now (ap (λ (rs : List (Vec ℕ Global)). batch_of rs) c.deref.ensures.value ∙ c.in-Ok.ensures ∙ ap (λ (os : List Outcome). map outcome_bytes os) c.as_slice.ensures)
+    c.requires.running c.append.ensures.cause (c.append.ensures.any_moment tells on.index_batches on.index)
+
+pub returns-in-Err-DiskFault-clause-any_moment : goal.returns-in-Err-DiskFault-clause-any_moment
+returns-in-Err-DiskFault-clause-any_moment g c = λ tells on s k.
+    committing g.D.Disk.state c.args.disk.now c.append.new.disk c.args.self.now s k on c.append.result c.args.at c.index.result.now
+    (work_there c.args.self.now c.args.at c.index.result.now c.requires.next c.index.ensures) (work_begins c.args.self.now c.args.at c.index.result.now c.requires.next c.index.ensures)
+    c.deref.result.now (ap (λ (rs : List (Vec ℕ Global)). batch_of rs) c.deref.ensures.value ∙ c.in-Ok.ensures ∙ ap (λ (os : List Outcome). map outcome_bytes os) c.as_slice.ensures)
+    c.requires.running c.append.ensures.cause (c.append.ensures.any_moment tells on.index_batches on.index)
+
+pub returns-in-Err-OutOfMemory-clause-any_moment : goal.returns-in-Err-OutOfMemory-clause-any_moment
+returns-in-Err-OutOfMemory-clause-any_moment g c = λ tells on s k.
+    committing g.D.Disk.state c.args.disk.now c.append.new.disk c.args.self.now s k on c.append.result c.args.at c.index.result.now
+    (work_there c.args.self.now c.args.at c.index.result.now c.requires.next c.index.ensures) (work_begins c.args.self.now c.args.at c.index.result.now c.requires.next c.index.ensures)
+    c.deref.result.now (ap (λ (rs : List (Vec ℕ Global)). batch_of rs) c.deref.ensures.value ∙ c.in-Ok.ensures ∙ ap (λ (os : List Outcome). map outcome_bytes os) c.as_slice.ensures)
+    c.requires.running c.append.ensures.cause (c.append.ensures.any_moment tells on.index_batches on.index)
+
+pub returns-in_default-clause-any_moment : goal.returns-in_default-clause-any_moment
+returns-in_default-clause-any_moment g c = λ tells on s k. nothing_yet c.args.self.now s k (g.D.Disk.state c.args.disk.now) on (commits s)
+
+pub returns-then-is_err-clause-any_moment : goal.returns-then-is_err-clause-any_moment
+returns-then-is_err-clause-any_moment g c = λ tells on s k. nothing_yet c.args.self.now s k (g.D.Disk.state c.args.disk.now) on (commits s)

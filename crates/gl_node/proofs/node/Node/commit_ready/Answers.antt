@@ -1,10 +1,25 @@
-use Rattle.std.proofs.Common.{Bool, IsTrue, sym, ◌∙◌, subst}
+use Rattle.std.proofs.Common.{Bool, IsTrue, refl, sym, ◌∙◌, subst}
 use Rattle.gl_node.specs.declared.committing.Step.{Step}
 use Rattle.gl_node.specs.State.{Committed, happened, state_after}
+use Rattle.gl_node.specs.Claims.{commits}
 use Rattle.gl_node.specs.Commits.{IsStep}
-use Rattle.gl_node.proofs.Ready.{went_on, stayed}
+use Rattle.gl_node.proofs.Ready.{started, went_on, stayed}
 use Rattle.gl_node.proofs.Finishes.{on_err, ended}
+use Rattle.gl_node.proofs.Moments.{nothing_yet, more_commits}
 use Rattle.gl_node.proofs.node.Node.commit_ready.Goals as goal
+
+pub loop-at-init : goal.loop-at-init
+loop-at-init g c = record {
+  running = c.requires.running;
+  some = λ s k. started s c.args.self.now k;
+  keeps = c.requires.keeps;
+  same = (refl, refl);
+  ready = c.requires.ready;
+  stands = λ tells on. on;
+  moments = λ tells on s k. nothing_yet c.args.self.now s k (g.D.Disk.state c.args.disk.now) on (commits s);
+  tells = refl;
+  faults = refl;
+}
 
 pub returns-in_err-commit_one-clause-went_on : goal.returns-in_err-commit_one-clause-went_on
 returns-in_err-commit_one-clause-went_on g c =
@@ -30,6 +45,11 @@ loop-at-preserved g c =
       stands = λ tells on.
           let told = subst (λ (b : Bool). IsTrue b) now.tells tells in
           now.stands told c.in_ok-commit_one.ensures.running (before.stands told on);
+      moments = λ tells on s k.
+          let told = subst (λ (b : Bool). IsTrue b) (sym before.tells) tells in
+          let so = before.some s k in
+          more_commits s c.loop-at.self so (g.D.Disk.state c.args.disk.now) (g.D.Disk.state c.loop-at.disk) (g.D.Disk.state c.commit_one.new.disk) (before.moments tells on s k)
+          (now.any_moment told (before.stands told on) (state_after s so.done) so.keeps);
       tells = now.tells ∙ before.tells;
       faults = (c.in_ok-commit_one.ensures.faults.steady (λ f h. cc h)).0 ∙ before.faults;
     }
@@ -37,3 +57,19 @@ loop-at-preserved g c =
 pub returns-clause-answer : goal.returns-clause-answer
 returns-clause-answer g c = λ s k.
     ended s c.loop-at.self (c.loop-at.invariant.some s k) (sym c.ready.ensures ∙ c.in_default.is) c.len.result c.len.ensures
+
+pub returns-in_err-commit_one-clause-any_moment : goal.returns-in_err-commit_one-clause-any_moment
+returns-in_err-commit_one-clause-any_moment g c = λ tells on s k.
+    let before = c.loop-at.invariant in
+    let told = subst (λ (b : Bool). IsTrue b) (sym before.tells) tells in
+    let so = before.some s k in
+    more_commits s c.loop-at.self so (g.D.Disk.state c.args.disk.now) (g.D.Disk.state c.loop-at.disk) (g.D.Disk.state c.commit_one.new.disk) (before.moments tells on s k)
+    (c.commit_one.ensures.any_moment told (before.stands told on) (state_after s so.done) so.keeps)
+
+pub returns-in-Full-clause-any_moment : goal.returns-in-Full-clause-any_moment
+returns-in-Full-clause-any_moment g c = λ tells on s k.
+    let before = c.loop-at.invariant in
+    let told = subst (λ (b : Bool). IsTrue b) (sym before.tells) tells in
+    let so = before.some s k in
+    more_commits s c.loop-at.self so (g.D.Disk.state c.args.disk.now) (g.D.Disk.state c.loop-at.disk) (g.D.Disk.state c.commit_one.new.disk) (before.moments tells on s k)
+    (c.commit_one.ensures.any_moment told (before.stands told on) (state_after s so.done) so.keeps)

@@ -1,10 +1,13 @@
-use Rattle.std.proofs.Common.{◌≤◌, true, false, Ok, ap, refl, sym, ◌∙◌, arith}
+use Rattle.std.proofs.Common.{◌≤◌, true, false, Ok, ap, refl, sym, ◌∙◌, subst, arith}
 use Rattle.gl_node.specs.declared.answer.Finished.TheVariants as finished
 use Rattle.gl_node.specs.declared.mark.Claim.{Claim}
+use Rattle.gl_node.specs.Claims.{finish_events}
+use Rattle.gl_node.specs.Node.{Store, StoreOn}
 use Rattle.gl_node.specs.State.{CameIn, happened}
 use Rattle.gl_node.proofs.Keeping.{range_by_fields}
 use Rattle.gl_node.proofs.Ready.{some_happened}
 use Rattle.gl_node.proofs.Finishes.{on_err_so, if_ok_so, no_claim, no_stale, holds, at_there, held_within, within_entries, fresh_is, is_fresh, its_claim, not_stale, waits_or_not, it_waits, it_is_ready}
+use Rattle.gl_node.proofs.Moments.{nothing_yet, came_first}
 use Rattle.gl_node.proofs.node.Node.finish.Goals as goal
 
 pub returns-in_default-place_of-clause-answer : goal.returns-in_default-place_of-clause-answer
@@ -94,3 +97,26 @@ returns-clause-faults g c =
       steady = λ none. ((cause.steady none).0, (cause.steady none).1 ∙ c.take_in.ensures.same.1);
       running = λ runs. cause.running (c.take_in.ensures.same.1 ∙ runs);
     }
+
+pub returns-clause-any_moment : goal.returns-clause-any_moment
+returns-clause-any_moment g c = λ tells on s k.
+    let claim = c.index.result.now in
+    let place = sym c.place_of.ensures ∙ c.in-Some-place_of.is in
+    let same = c.gave.ensures.0 c.if-not-gave.false ∙ range_by_fields c.args.self.now s claim.mark k in
+    let now = c.take_in.ensures.kept s k claim (at_there c.args.self.now s c.args.worker k c.in-Some-place_of.at claim place c.index.ensures) same in
+    let low : claim.mark.first ≤ c.take_in.new.self.next = omega (arith, held_within c.args.self.now s c.args.worker k c.in-Some-place_of.at claim place c.index.ensures, c.take_in.ensures.next) in
+    let ready = waits_or_not c.args.self.now s c.args.worker k c.in-Some-place_of.at claim place c.index.ensures c.take_in.new.self now low false (sym c.if-holds_below.false ∙ c.holds_below.ensures) in
+    came_first s c.args.worker claim (g.D.Disk.state c.args.disk.now) (g.D.Disk.state c.commit_ready.new.disk) (holds c.args.self.now s c.args.worker k c.in-Some-place_of.at claim place c.index.ensures) ready
+    (c.commit_ready.ensures.any_moment tells (subst (λ (store : Store). StoreOn store (g.D.Disk.state c.args.disk.now)) (sym c.take_in.ensures.same.0) on) (happened s (CameIn claim)) now)
+
+pub returns-in-Some-clause-any_moment : goal.returns-in-Some-clause-any_moment
+returns-in-Some-clause-any_moment g c = λ tells on s k. nothing_yet c.args.self.now s k (g.D.Disk.state c.args.disk.now) on (finish_events s c.args.worker)
+
+pub returns-in_default-place_of-clause-any_moment : goal.returns-in_default-place_of-clause-any_moment
+returns-in_default-place_of-clause-any_moment g c = λ tells on s k. nothing_yet c.args.self.now s k (g.D.Disk.state c.args.disk.now) on (finish_events s c.args.worker)
+
+pub returns-then-not-gave-clause-any_moment : goal.returns-then-not-gave-clause-any_moment
+returns-then-not-gave-clause-any_moment g c = λ tells on s k. nothing_yet c.args.self.now s k (g.D.Disk.state c.args.disk.now) on (finish_events s c.args.worker)
+
+pub returns-then-holds_below-clause-any_moment : goal.returns-then-holds_below-clause-any_moment
+returns-then-holds_below-clause-any_moment g c = λ tells on s k. nothing_yet c.args.self.now s k (g.D.Disk.state c.args.disk.now) on (finish_events s c.args.worker)
