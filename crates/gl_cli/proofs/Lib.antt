@@ -13,3 +13,4 @@ pub mod Causes
 pub mod Openings
 pub mod Rows
 pub mod Big
+mod Arrivals

@@ -1,4 +1,5 @@
 pub mod Answers
+pub mod Arrivals
 pub mod Desk
 pub mod Ends
 pub mod Parsing

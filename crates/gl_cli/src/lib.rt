@@ -8,6 +8,7 @@
 
 mod answering;
 mod desk;
+mod law;
 mod line;
 mod parse;
 mod print;
@@ -18,5 +19,6 @@ mod top;
 mod waiting;
 mod writer;
 
+pub use law::law_arrivals_of_a_script;
 pub use status::{Command, Status};
 pub use top::{command_of, run_command};

@@ -127,7 +127,7 @@ fn udp_line(alloc: Global, rest: Option<&[u8]>) -> Result<Option<Line>, AllocErr
                 }
                 let input = name_text(alloc, input)?;
                 let peer = name_text(alloc, peer)?;
-                let mut bytes = Vec::new(alloc);
+                let mut bytes = Vec::with_capacity(alloc, payload.len())?;
                 percent_decode(payload).append_to(&mut bytes)?;
                 Ok(Some(Line::Udp {
                     input,

@@ -339,3 +339,27 @@ fn the_end_of_a_run_is_its_end(rt: HostRuntime) -> Result<(), Fail> {
     assert_eq!(rt; played.journal.len(), 78);
     Ok(())
 }
+
+// A payload of 1,048,576 bytes is taken, and one of a byte more is not. A byte ff reads as U+FFFD, three bytes: as many
+// of them are more than a text of a message may have.
+#[test]
+fn the_longest_payload(rt: HostRuntime) -> Result<(), Fail> {
+    let alloc = rt.alloc();
+    let mut script = Vec::from_slice(alloc, b"udp raw p ")?;
+    script.resize(10 + 1_048_577, 0xff)?;
+    let played = play(alloc, &SESSION, &script, 65_536, NONE)?;
+    assert_eq!(rt; played.status, Status::Done);
+    assert_eq!(rt;
+        played.written.as_slice(),
+        b"frame-too-long\ndone 0 0\n".as_slice()
+    );
+    script.pop();
+    script.extend_from_slice(b"\nclaim 0 1\nfinish 0\nlist\n")?;
+    let played = play(alloc, &SESSION, &script, 65_536, NONE)?;
+    assert_eq!(rt; played.status, Status::Done);
+    assert_eq!(rt;
+        played.written.as_slice(),
+        b"journalled 0\nclaimed 0 0 1\ncommitted 1\njournal 1 committed 1\n0 undecodable too-large\ndone 1 1\n".as_slice()
+    );
+    Ok(())
+}
