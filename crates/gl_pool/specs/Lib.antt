@@ -1,0 +1,4 @@
+pub mod Claims
+pub mod Inside
+pub mod Kept
+pub mod Taking

@@ -1,0 +1,12 @@
+mod Counting
+mod Ending
+mod Keeping
+mod Known
+mod Orders
+mod PadLists
+mod Places
+mod Seating
+mod Splitting
+mod Sums
+mod Turning
+mod Views

@@ -1,0 +1,7 @@
+pub mod Order
+pub mod Own
+pub mod Pads
+pub mod Rule
+pub mod Seats
+pub mod Steps
+pub mod Views
