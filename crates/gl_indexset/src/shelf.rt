@@ -1,0 +1,74 @@
+// The live rows, in order of position.
+ghost use Rattle.std.specs.Prelude.{◌≡◌, ◌+◌, ◌-◌, ◌<◌, ◌≤◌, [], ◌∷◌, ◌++◌, length, Some, slice_get, slice_index_or, OnOk, OnErr, IsOk};
+ghost use Rattle.std.specs.List.{remove};
+ghost use Rattle.gl_indexset.specs.Shelved.{Shelved};
+
+use crate::row::Row;
+use std::alloc::{AllocError, Global};
+use std::collections::VecDeque;
+use std::marker::Model;
+
+/// A list of rows from which any row is taken by its place. It moves the fewer of the rows before it
+/// and behind it, so the oldest row is taken at once.
+#[derive(Drop)]
+pub(crate) struct Shelf {
+    rows: VecDeque<Row>,
+}
+
+impl Model for Shelf {
+    ghost use Rattle.std.specs.Prelude.{◌-◌};
+    ghost use Rattle.std.specs.VecDeque.{deque_capacity, deque_len};
+    ghost use Rattle.gl_indexset.specs.Shelved.{Shelved};
+
+    ghost Value = { Shelved };
+
+    ghost view = { λ s. record { rows = s.rows.items; spare = deque_capacity s.rows - deque_len s.rows } };
+}
+
+impl Shelf {
+    pub(crate) fn new(alloc: Global) -> Shelf
+        ensures { result.rows ≡ [] }
+    {
+        Shelf {
+            rows: VecDeque::new(alloc),
+        }
+    }
+
+    pub(crate) fn len(&self) -> usize
+        ensures { result ≡ length self.now.rows }
+    {
+        self.rows.len()
+    }
+
+    pub(crate) fn get(&self, n: usize) -> &Row
+        requires { n < length self.now.rows }
+        ensures { slice_get self.now.rows n ≡ Some result.now }
+    {
+        &self.rows[n]
+    }
+
+    /// Makes room for so many rows more.
+    pub(crate) fn reserve(&mut self, additional: usize) -> Result<(), AllocError>
+        ensures rows { self.new.rows ≡ self.old.rows }
+        ensures ok { OnOk result (additional ≤ self.new.spare) }
+        ensures spare { self.old.spare ≤ self.new.spare }
+    {
+        self.rows.reserve(additional)
+    }
+
+    pub(crate) fn push(&mut self, row: Row)
+        requires { 0 < self.old.spare }
+        ensures { self.new ≡ record { rows = self.old.rows ++ row ∷ []; spare = self.old.spare - 1 } }
+    {
+        self.rows.push_back_reserved(row);
+    }
+
+    /// Takes the row at this place out.
+    pub(crate) fn remove(&mut self, n: usize)
+        requires { n < length self.old.rows }
+        ensures rows { self.new.rows ≡ remove self.old.rows n }
+        ensures spare { self.old.spare ≤ self.new.spare }
+    {
+        let _ = self.rows.remove(n);
+    }
+}

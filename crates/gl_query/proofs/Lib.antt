@@ -1,0 +1,13 @@
+pub mod Lexing
+pub mod Wording
+pub mod Growing
+pub mod Taking
+pub mod Steps
+pub mod Endings
+pub mod Complete
+pub mod Texting
+pub mod Covering
+pub mod Decimals
+pub mod Naming
+pub mod Evaluating
+pub mod Sound

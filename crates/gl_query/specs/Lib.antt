@@ -1,0 +1,15 @@
+pub mod Tokens
+pub mod Words
+pub mod Steps
+pub mod Tree
+pub mod Refusals
+pub mod Building
+pub mod Reading
+pub mod Grammar
+pub mod Refused
+pub mod Ending
+pub mod Texts
+pub mod Patterns
+pub mod Attempts
+pub mod Matching
+pub mod Evaluation

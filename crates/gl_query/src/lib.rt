@@ -1,0 +1,30 @@
+//! The query language of a search: reading a query, and telling whether it holds of a message's fields.
+//!
+//! `read_query` reads exactly the texts whose tokens (`specs/Tokens`) are a query of the grammar
+//! (`specs/Grammar`) within the limits, with its tree there, and else says where the text is refused
+//! (`specs/Refusals`). A `Query` is seen as the nodes of its tree in Polish notation (`specs/Tree`).
+//! `matches` says whether that tree holds of a map of fields (`specs/Matching`, over the tokens of a text
+//! in `specs/Texts` and wildcards in `specs/Patterns`). It takes no memory, and time as the texts that it
+//! looks at times the query.
+#![tactic(auto)]
+
+mod builder;
+mod decimal;
+mod lexer;
+mod matching;
+mod pattern;
+mod query;
+mod read;
+mod step;
+mod term;
+#[cfg(test)]
+mod tests;
+mod texts;
+mod token;
+mod word;
+
+pub use matching::matches;
+pub use query::{Query, QueryRefusal};
+pub use read::{MAX_QUERY, law_one_tree, read_query};
+pub use term::{Limit, Node, Piece, Term};
+pub use token::{Comparison, Edge, Token};

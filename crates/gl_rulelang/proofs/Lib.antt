@@ -1,0 +1,11 @@
+pub mod Cuts
+pub mod Ends
+pub mod Escapes
+pub mod Forms
+pub mod Numbers
+pub mod Quoting
+pub mod Runs
+pub mod Shown
+pub mod StageSteps
+pub mod Steps
+pub mod Turns

@@ -1,0 +1,13 @@
+pub mod Bytes
+pub mod Tree
+pub mod Tokens
+pub mod Fronts
+pub mod Faults
+pub mod Cutting
+pub mod Nesting
+pub mod Expressions
+pub mod Places
+pub mod Rules
+pub mod Pipelines
+pub mod Printing
+pub mod Grammar
