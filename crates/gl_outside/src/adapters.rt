@@ -1,5 +1,5 @@
 // Std's readers and writers as sources and sinks.
-ghost use Rattle.std.specs.Prelude.{◌<◌, ◌≤◌, length, None, IfSome};
+ghost use Rattle.std.specs.Prelude.{◌≡◌, ◌<◌, ◌≤◌, length, None, IfSome};
 
 use crate::listed::count_one;
 use crate::{Outside, Sink, Source};
@@ -13,7 +13,10 @@ pub struct ReaderSource<R: Read> {
 }
 
 impl<R: Read> ReaderSource<R> {
-    pub fn new(reader: R) -> ReaderSource<R> {
+    /// A source that hasn't failed yet.
+    pub fn new(reader: R) -> ReaderSource<R>
+        ensures { result.faults ≡ 0 }
+    {
         ReaderSource { reader, faults: 0 }
     }
 }
@@ -47,7 +50,10 @@ pub struct WriterSink<W: Write> {
 }
 
 impl<W: Write> WriterSink<W> {
-    pub fn new(writer: W) -> WriterSink<W> {
+    /// A sink that hasn't failed yet.
+    pub fn new(writer: W) -> WriterSink<W>
+        ensures { result.faults ≡ 0 }
+    {
         WriterSink { writer, faults: 0 }
     }
 }

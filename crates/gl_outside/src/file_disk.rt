@@ -50,7 +50,9 @@ impl From<AllocError> for Trouble {
 
 impl<R: Files<File = File>> FileDisk<R> {
     /// The disk of a folder. No file is touched yet.
-    pub fn new(rt: R, alloc: Global, folder: String) -> FileDisk<R> {
+    pub fn new(rt: R, alloc: Global, folder: String) -> FileDisk<R>
+        ensures { result.faults ≡ 0 }
+    {
         FileDisk {
             rt,
             alloc,

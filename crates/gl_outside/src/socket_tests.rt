@@ -116,8 +116,7 @@ fn answer_one<R: time::Clock>(rt: &R, door: &mut TcpDoor) -> bool {
     let read = connection.source().read(&mut into);
     let is_answered = read == Ok(4) && connection.sink().write(&into) == Ok(4);
     let is_here = connection.peer() == "127.0.0.1";
-    connection.hang_up();
-    is_answered && is_here
+    is_answered && is_here && door.hang_up(connection).is_ok()
 }
 
 // Sends more than is read before the reply, and reads the whole reply.

@@ -15,7 +15,10 @@ pub struct SystemClock<R: time::Clock> {
 }
 
 impl<R: time::Clock> SystemClock<R> {
-    pub fn new(rt: R) -> SystemClock<R> {
+    /// A clock that could always be read so far.
+    pub fn new(rt: R) -> SystemClock<R>
+        ensures { result.faults ≡ 0 }
+    {
         SystemClock {
             rt,
             last: 0,

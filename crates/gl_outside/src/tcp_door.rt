@@ -1,9 +1,11 @@
 // TCP connections, one after another.
-ghost use Rattle.std.specs.Prelude.{◌≡◌};
+ghost use Rattle.std.specs.Prelude.{◌≡◌, IfOk};
 ghost use Rattle.gl_base.specs.Counts.{HasCause};
+ghost use Rattle.gl_outside.specs.Links.{IsAddress};
 ghost use Rattle.gl_outside.specs.declared.fault.Outside.TheVariants.{Failed};
 
 use crate::listed::count_one;
+use crate::udp_link::is_address;
 use crate::{Outside, ReaderSource, WriterSink};
 use gl_base::Text;
 use std::alloc::Global;
@@ -44,6 +46,7 @@ pub enum Entered {
 pub struct Connection {
     stream: TcpStream,
     peer: Text,
+    ghost named: { IsAddress peer },
 }
 
 impl TcpDoor {
@@ -54,7 +57,9 @@ impl TcpDoor {
         alloc: Global,
         port: u16,
         patience: Duration,
-    ) -> Result<TcpDoor, Outside> {
+    ) -> Result<TcpDoor, Outside>
+        ensures { IfOk result (λ door. door.faults ≡ 0) }
+    {
         let Ok(listener) = TcpListener::bind(rt, (Ipv4Addr::LOCALHOST, port)) else {
             return Err(Outside::Failed);
         };
@@ -85,6 +90,19 @@ impl TcpDoor {
         entered
     }
 
+    /// Ends a connection so that a reply reaches its peer: the system throws away what wasn't sent yet where bytes that
+    /// came are unread as a socket is closed. So this side is shut first, and what still comes is read, at most 2 MiB and
+    /// for some twelve seconds. After `Failed` it is closed all the same.
+    pub fn hang_up(&mut self, connection: Connection) -> Result<(), Outside>
+        ensures cause { HasCause Failed self.old.faults self.new.faults result }
+    {
+        if part_from(&connection.stream) {
+            return Ok(());
+        }
+        count_one(&mut self.faults);
+        Err(Outside::Failed)
+    }
+
     /// How often it has failed, which never falls; it stays at 2^64 - 1.
     pub fn faults(&self) -> u64
         ensures { result ≡ self.now.faults }
@@ -100,7 +118,7 @@ impl TcpDoor {
                 let is_set = write!(peer, "{}", from.ip()).is_ok()
                     && stream.set_read_timeout(Some(self.patience)).is_ok()
                     && stream.set_write_timeout(Some(self.patience)).is_ok();
-                if !is_set {
+                if !is_set || !is_address(&peer) {
                     return Err(Outside::Failed);
                 }
                 Ok(Entered::Connection(Connection {
@@ -118,38 +136,47 @@ impl TcpDoor {
 
 impl Connection {
     /// What the peer sends.
-    pub fn source(&self) -> ReaderSource<&TcpStream> {
+    pub fn source(&self) -> ReaderSource<&TcpStream>
+        ensures { result.faults ≡ 0 }
+    {
         ReaderSource::new(&self.stream)
     }
 
     /// What the peer gets.
-    pub fn sink(&self) -> WriterSink<&TcpStream> {
+    pub fn sink(&self) -> WriterSink<&TcpStream>
+        ensures { result.faults ≡ 0 }
+    {
         WriterSink::new(&self.stream)
     }
 
-    /// The address that it comes from.
-    pub fn peer(&self) -> &str {
+    /// The address that it comes from, 1 to 255 bytes.
+    pub fn peer(&self) -> &str
+        ensures { IsAddress result.now }
+    {
         self.peer.as_str()
     }
 
-    /// Ends the connection so that a reply reaches its peer: the system throws away what wasn't sent yet where bytes that
-    /// came are unread as a socket is closed. So this side is shut first, and what still comes is read, at most 2 MiB and
-    /// for some twelve seconds. A fault here comes after the reply, and isn't told.
-    pub fn hang_up(self) {
-        let mut stream = &self.stream;
-        if stream.shutdown(Shutdown::Write).is_err()
-            || stream
-                .set_read_timeout(Some(Duration::from_millis(PIECE_WAIT_MS)))
-                .is_err()
-        {
-            return;
-        }
-        let mut piece = [0u8; PIECE];
-        for _ in 0..MOST_PIECES {
-            match stream.read(&mut piece) {
-                Ok(count) if count > 0 => {}
-                _ => return,
-            }
+}
+
+// Shuts this side, and reads what the peer still sends until it ends, pauses, or has sent enough. Answers whether nothing failed.
+fn part_from(mut stream: &TcpStream) -> bool {
+    if stream.shutdown(Shutdown::Write).is_err()
+        || stream
+            .set_read_timeout(Some(Duration::from_millis(PIECE_WAIT_MS)))
+            .is_err()
+    {
+        return false;
+    }
+    let mut piece = [0u8; PIECE];
+    for _ in 0..MOST_PIECES {
+        match stream.read(&mut piece) {
+            Ok(0) => return true,
+            Ok(_) => {}
+            Err(error) => return matches!(
+                error.kind(),
+                ErrorKind::WouldBlock | ErrorKind::TimedOut | ErrorKind::Interrupted
+            ),
         }
     }
+    true
 }

@@ -33,7 +33,9 @@ impl UdpLink {
         alloc: Global,
         port: u16,
         wait: Duration,
-    ) -> Result<UdpLink, Outside> {
+    ) -> Result<UdpLink, Outside>
+        ensures { IfOk result (λ link. link.faults ≡ 0) }
+    {
         let Ok(socket) = UdpSocket::bind(rt, (Ipv4Addr::LOCALHOST, port)) else {
             return Err(Outside::Failed);
         };
@@ -80,7 +82,8 @@ impl UdpLink {
     }
 }
 
-fn is_address(text: &str) -> bool
+// Whether it has the length of an address.
+pub(crate) fn is_address(text: &str) -> bool
     ensures { IsTrue result ↔ IsAddress text.now }
 {
     0 < text.len() && text.len() <= 255
