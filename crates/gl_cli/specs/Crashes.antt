@@ -1,0 +1,32 @@
+-- What a crash leaves of a session that has ended.
+use Rattle.std.specs.Prelude.{◌≡◌, ◌≢◌, ℕ, ◌≤◌, List, [], ◌∷◌, ◌++◌, length, take, Option}
+use Rattle.std.specs.Io.KnownBytes.{Appends}
+use Rattle.gl_outside.specs.Disk.{Image}
+use Rattle.gl_node.specs.State.{Base, Event, opened, state_after}
+use Rattle.gl_node.specs.Standing.{StandsFor}
+use Rattle.gl_cli.specs.Writing.{BeginsWith}
+use Rattle.gl_cli.specs.Runs.{Turn, script_turns, last_state, turn_events, turn_text, all_events, all_text, done_text}
+
+-- the events of the next of these lines, and what is written next: its answer lines, and behind all lines the last line of the session
+abbrev pub next_events : List Turn → List Event
+next_events [] = []
+next_events (turn ∷ turns) = turn_events turn
+
+abbrev pub next_text : List ℕ → List Turn → List ℕ
+next_text at_end [] = at_end
+next_text at_end (turn ∷ turns) = turn_text turn
+
+-- At an exit some lines were answered, and of the next line a front of its answer is in the sink. The image stands for the
+-- state after the events of the answered lines and some of the first of the next one: after all of these where a byte
+-- of its answer is in the sink. So it holds each event whose answer has a byte in the sink, and none of a later line.
+pub record ShownAt (base : Base) (script : List ℕ) (before after : Option (List ℕ)) (image : Image) : Type 0 where
+  pub answered : List Turn
+  pub ahead : List Turn
+  pub all : script_turns base [] script ≡ answered ++ ahead
+  pub written : List ℕ
+  pub gained : Appends before after (all_text answered ++ written)
+  pub begins : BeginsWith (next_text (done_text (last_state base (script_turns base [] script))) ahead) written
+  pub count : ℕ
+  pub few : count ≤ length (next_events ahead)
+  pub told : written ≢ [] → count ≡ length (next_events ahead)
+  pub stands : StandsFor image (state_after (opened base) (all_events answered ++ take count (next_events ahead)))
