@@ -155,7 +155,6 @@ impl Connection {
     {
         self.peer.as_str()
     }
-
 }
 
 // Shuts this side, and reads what the peer still sends until it ends, pauses, or has sent enough. Answers whether nothing failed.
