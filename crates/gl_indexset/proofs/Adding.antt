@@ -144,6 +144,7 @@ module _ (kept new : Kept) (set : SetKept) (at : ℕ) (sound : IsSound kept)
   set_sound = record {
     above = rw newest (omega arith);
     number = rw (number, newest) (omega arith);
+    closed = rw (closed, number) (omega arith);
     lined = rw (closed, newest) (omega arith);
     starts = λ none. (number, closed);
   }
@@ -200,3 +201,8 @@ module _ (kept new : Kept) (set : SetKept) (at : ℕ) (sound : IsSound kept)
       filter_alike p q same [] = refl
       filter_alike p q same (row ∷ l) =
           ap (λ b. cond b (row ∷ filter p l) (filter p l)) (same row) ∙ ap (λ (r : List Row). cond (q row) (row ∷ r) r) (filter_alike p q same l)
+
+-- a set of a name has a rule of it
+pub known_by_set : (name : List ℕ) (sets : List SetKept) → list_any (λ (s : SetKept). bytes_eq name s.rule.name) sets ≡ is_known (map (λ (s : SetKept). s.rule) sets) name
+known_by_set name [] = refl
+known_by_set name (set ∷ sets) = ap (λ b. bytes_eq name set.rule.name || b) (known_by_set name sets)

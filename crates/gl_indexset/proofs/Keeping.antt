@@ -2,7 +2,7 @@
 use Rattle.std.proofs.Common.{◌≡◌, ℕ, zero, suc, ◌+◌, ◌-◌, ◌<◌, ◌≤◌, ◌==◌, Bool, true, false, not, ◌&&◌, ◌||◌, cond, nat_le, min, max, List, [], ◌∷◌, ◌++◌, length, take, drop, reverse, Option, Some, None, refl, sym, ◌∙◌, ap, subst, arith}
 use Rattle.std.proofs.Math.Seq.{take-append_seam}
 use Rattle.std.proofs.lemmas.Bool.Decides.{nat_tests}
-use Rattle.std.proofs.lemmas.List.{reverse-append, length-reverse, length-take, take_all}
+use Rattle.std.proofs.lemmas.List.{reverse-append, length-append, length-reverse, length-take, take_all}
 use Rattle.std.proofs.lemmas.Grind.{reverse_onto}
 use Rattle.gl_indexset.specs.declared.row.Row.{Row}
 use Rattle.gl_indexset.specs.declared.set.Index.{Index}
@@ -18,7 +18,7 @@ tail_is x y xs ys h = ap (λ (l : List Index). drop 1 l) h
 head_is : (x y : Index) (xs ys : List Index) → x ∷ xs ≡ y ∷ ys → x ≡ y
 head_is x y xs ys h = cc h
 
-turned : (x : Index) (xs : List Index) → reverse (x ∷ xs) ≡ reverse xs ++ x ∷ []
+pub turned : (x : Index) (xs : List Index) → reverse (x ∷ xs) ≡ reverse xs ++ x ∷ []
 turned x xs = reverse_onto xs x []
 
 turned_push : (xs : List Index) (x : Index) → reverse (xs ++ x ∷ []) ≡ x ∷ reverse xs
@@ -291,26 +291,34 @@ lined_drop false closed high lined = lined
 lined_drop true [] high lined = lined
 lined_drop true (index ∷ closed) high lined = lined_lower 0 index.first closed high (omega arith) lined.1
 
+rotated_length : (b : Bool) (closed : List Index) (newest : Index) → length (drop_if b (closed ++ newest ∷ [])) ≤ length closed + 1
+rotated_length false closed newest = omega (arith, length-append closed (newest ∷ []))
+rotated_length true [] newest = omega arith
+rotated_length true (index ∷ closed) newest = omega (arith, length-append closed (newest ∷ []))
+
 pub sound_after : (position moment : ℕ) (set : SetKept) → IsSetSound position set → IsSetSound (position + 1) (stored position moment set)
 sound_after position moment set sound = by_cases position moment set (λ (s : SetKept). IsSetSound (position + 1) s)
     (λ none. record {
       above = omega arith;
       number = rw ((sound.starts (zero_test set.newest.rows none)).0) (omega arith);
+      closed = rw ((sound.starts (zero_test set.newest.rows none)).1) (omega arith);
       lined = rw ((sound.starts (zero_test set.newest.rows none)).1) (omega arith);
       starts = λ zero_is. absurd (omega arith);
     })
     (λ some full. record {
       above = omega arith;
       number = omega (arith, sound.number, sound.above, some_test set.newest.rows some);
+      closed = omega (arith, sound.closed, rotated_length (nat_le set.rule.keep (length set.closed + 1)) set.closed set.newest);
       lined = lined_drop (nat_le set.rule.keep (length set.closed + 1)) (set.closed ++ set.newest ∷ []) position (lined_more 0 set.closed set.newest position sound.lined (omega (arith, sound.above)));
       starts = λ zero_is. absurd (omega arith);
     })
     (λ some full. record {
       above = omega (arith, sound.above);
       number = sound.number;
+      closed = sound.closed;
       lined = sound.lined;
       starts = λ zero_is. absurd (omega arith);
     })
 
 pub sound_later : (a b : ℕ) (set : SetKept) → a ≤ b → IsSetSound a set → IsSetSound b set
-sound_later a b set le sound = record { above = omega (arith, sound.above, le); number = sound.number; lined = sound.lined; starts = sound.starts }
+sound_later a b set le sound = record { above = omega (arith, sound.above, le); number = sound.number; closed = sound.closed; lined = sound.lined; starts = sound.starts }

@@ -1,5 +1,8 @@
 pub mod Adding
+pub mod Compacting
+pub mod Departing
 pub mod Keeping
+pub mod Listing
 pub mod Numbering
 pub mod Rooms
 pub mod Standing

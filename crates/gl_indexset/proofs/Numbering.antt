@@ -196,7 +196,7 @@ module _ (next : ℕ) (last : Numbered) (before : List Numbered) (laid : IsLaidO
               over (Some first) is = more last.number ∙ sym (reaches first row.position (omega (arith, start_below next k indexes rest_low first is, above)))
 
 -- the newest index has just the rows of its number
-none_of : (number : ℕ) (rows : List Numbered) → Each (λ (y : Numbered). y.number < number) rows → index_of number rows ≡ []
+pub none_of : (number : ℕ) (rows : List Numbered) → Each (λ (y : Numbered). y.number < number) rows → index_of number rows ≡ []
 none_of number [] e = refl
 none_of number (y ∷ rows) e = skip (y.number == number) (differs y.number e.0) ∙ none_of number rows e.1
   where
@@ -210,7 +210,7 @@ none_of number (y ∷ rows) e = skip (y.number == number) (differs y.number e.0)
 same_number : (n : ℕ) → (n == n) ≡ true
 same_number n = grind (arith, nat_tests)
 
-takes_head : (row : Numbered) (rows : List Numbered) → index_of row.number (row ∷ rows) ≡ row ∷ index_of row.number rows
+pub takes_head : (row : Numbered) (rows : List Numbered) → index_of row.number (row ∷ rows) ≡ row ∷ index_of row.number rows
 takes_head row rows = take_it (row.number == row.number) (same_number row.number)
   where
     take_it : (b : Bool) → b ≡ true → ◌≡◌ {A = List Numbered} (cond b (row ∷ index_of row.number rows) (index_of row.number rows)) (row ∷ index_of row.number rows)

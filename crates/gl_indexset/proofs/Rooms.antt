@@ -63,7 +63,7 @@ held_same row (o ∷ olds) (n ∷ news) are =
     ap (λ b. b || is_held news row) (ap (λ (s : SetKept). is_held_by row s) are.0.same) ∙ ap (λ b. is_held_by row o || b) (held_same row olds news are.1)
 
 sound_same : (next : ℕ) (a b : SetKept) → IsRoomier a b → IsSetSound next a → IsSetSound next b
-sound_same next a b more sound = subst (λ (s : SetKept). IsSetSound next s) (sym more.same) (record { above = sound.above; number = sound.number; lined = sound.lined; starts = sound.starts })
+sound_same next a b more sound = subst (λ (s : SetKept). IsSetSound next s) (sym more.same) (record { above = sound.above; number = sound.number; closed = sound.closed; lined = sound.lined; starts = sound.starts })
 
 module _ (kept new : Kept) (sets : AreRoomier kept.sets new.sets) (rows : new.rows ≡ kept.rows) (next : new.next ≡ kept.next) where
   pub roomy_sound : IsSound kept → IsSound new

@@ -23,7 +23,7 @@ pub falling_more : (a b : ℕ) (rows : List Row) → a ≤ b → AreFalling a ro
 falling_more a b [] le falling = tt
 falling_more a b (row ∷ before) le falling = (omega (arith, falling.0), falling.1)
 
-falling_rows : (rule : SetRule) (next : ℕ) (rows : List Row) → AreFalling next rows → AreFalling next (rows_of rule rows)
+pub falling_rows : (rule : SetRule) (next : ℕ) (rows : List Row) → AreFalling next rows → AreFalling next (rows_of rule rows)
 falling_rows rule next [] falling = tt
 falling_rows rule next (row ∷ before) falling = over (is_in rule row) (falling_rows rule row.position before falling.1)
   where
@@ -115,7 +115,7 @@ rules_stay row [] = refl
 rules_stay row (set ∷ sets) = ap (λ (r : SetRule). r ∷ map (λ (s : SetKept). s.rule) (map (goes row) sets)) (goes_rule row set) ∙ ap (λ (l : List SetRule). set.rule ∷ l) (rules_stay row sets)
 
 -- no earlier row is held that wasn't
-or_both : (a b c d : Bool) → (a ≡ true → c ≡ true) → (b ≡ true → d ≡ true) → (a || b) ≡ true → (c || d) ≡ true
+pub or_both : (a b c d : Bool) → (a ≡ true → c ≡ true) → (b ≡ true → d ≡ true) → (a || b) ≡ true → (c || d) ≡ true
 or_both true b c d first rest h = here c (first refl)
   where
     here : (e : Bool) → e ≡ true → (e || d) ≡ true

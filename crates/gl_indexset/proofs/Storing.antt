@@ -7,7 +7,7 @@ use Rattle.std.proofs.lemmas.List.Kept.{AllPairs-filter}
 use Rattle.std.proofs.lemmas.List.Quantifiers.{all_pairs_push}
 use Rattle.gl_indexset.specs.declared.row.Row.{Row}
 use Rattle.gl_indexset.specs.declared.row.SetRule.{SetRule}
-use Rattle.gl_indexset.specs.Retention.{numbers_of}
+use Rattle.gl_indexset.specs.Retention.{numbers_of, live_rows}
 use Rattle.gl_indexset.specs.SetKept.{SetKept, is_held, goes, stored, IsSetSound, IsReadyFor}
 use Rattle.gl_indexset.specs.Kept.{Kept, rules_of, spare_of, AreFalling, AreKnown, IsSound, Summarizes, StandsFor}
 use Rattle.gl_indexset.specs.Retention.{is_in}
@@ -68,7 +68,7 @@ module _ (kept : Kept) (row : Row) (sound : IsSound kept) (above : kept.next ≤
       (each_map_with (λ (s : SetKept). least kept.room kept.sets ≤ s.spare) (IsSetSound kept.next) (IsReadyFor row.position)
       (λ s le is. record {
         spare = omega (arith, le, some);
-        sound = record { above = omega (arith, is.above, above); number = is.number; lined = is.lined; starts = is.starts };
+        sound = record { above = omega (arith, is.above, above); number = is.number; closed = is.closed; lined = is.lined; starts = is.starts };
       }) kept.sets (least_each kept.room kept.sets) each_sound)
 
   pub below_row : All (λ (r : Row). r.position < row.position) kept.rows
@@ -118,42 +118,50 @@ module _ (kept : Kept) (row : Row) (sound : IsSound kept) (above : kept.next ≤
         (each_map (λ (s : SetKept). least kept.room kept.sets ≤ s.spare) (λ (s : SetKept). spare_of kept - 1 ≤ (goes row s).spare) (λ s le. omega (arith, le, one_less row s)) kept.sets (least_each kept.room kept.sets)))) in
         omega (arith, most)
 
-    pub stands_now : AreKnown (rules_of kept) row.sets → (all : List Row) → StandsFor kept all → StandsFor new (row ∷ all)
-    stands_now known all stands = record {
-      live = rows_are
+    module _ (all : List Row) (stands : StandsFor kept all) where
+      each_sum : Each (λ (s : SetKept). Summarizes s (numbers_of s.rule all)) kept.sets
+      each_sum = each_of (λ (s : SetKept). Summarizes s (numbers_of s.rule all)) kept.sets stands.sets
+
+      tell_before : Each (TellsAll all all) kept.sets
+      tell_before = each_map_with (IsSetSound kept.next) (λ (s : SetKept). Summarizes s (numbers_of s.rule all)) (TellsAll all all)
+          (λ s is sum. all_tell kept.next all stands.falling s is sum) kept.sets each_sound each_sum
+
+      summaries : Each (λ (s : SetKept). Summarizes s (numbers_of s.rule (row ∷ all))) new.sets
+      summaries = subst (λ (l : List SetKept). Each (λ (s : SetKept). Summarizes s (numbers_of s.rule (row ∷ all))) l) (sym sets_are)
+          (each_over (λ (s : SetKept). Summarizes s (numbers_of s.rule (row ∷ all))) (goes row) kept.sets
+          (each_map_with (IsSetSound kept.next) (λ (s : SetKept). Summarizes s (numbers_of s.rule all)) (λ (s : SetKept). Summarizes (goes row s) (numbers_of (goes row s).rule (row ∷ all)))
+          (λ s is sum. goes_summarizes kept.next all stands.falling row above s is sum) kept.sets each_sound each_sum))
+
+      falling_now : AreFalling new.next (row ∷ all)
+      falling_now = (omega (arith, next_is), falling_more kept.next row.position all above stands.falling)
+
+      tell_now : Each (TellsAll (row ∷ all) (row ∷ all)) new.sets
+      tell_now = each_map_with (IsSetSound new.next) (λ (s : SetKept). Summarizes s (numbers_of s.rule (row ∷ all))) (TellsAll (row ∷ all) (row ∷ all))
+          (λ s is sum. all_tell new.next (row ∷ all) falling_now s is sum) new.sets sets_sound summaries
+
+      wider : All (λ (r : Row). is_held new.sets r ≡ true → is_held kept.sets r ≡ true) (in_order all)
+      wider = ordered (λ (r : Row). is_held new.sets r ≡ true → is_held kept.sets r ≡ true) all
+          (each_map (λ (r : Row). r.position < kept.next) (λ (r : Row). is_held new.sets r ≡ true → is_held kept.sets r ≡ true)
+          (λ r lt h. held_earlier kept.next row r (omega (arith, lt, above)) above kept.sets each_sound (ap (λ (l : List SetKept). is_held l r) (sym sets_are) ∙ h))
+          all (falling_each kept.next all stands.falling))
+
+      -- what is live is as the index numbers say
+      pub live_now : new.rows ≡ live_rows (rules_of new) (row ∷ all)
+      live_now = rows_are
           ∙ ap (λ (l : List Row). filter (is_held new.sets) l ++ cond b (row ∷ []) []) (stands.live ∙ live_is all all kept.sets tell_before)
           ∙ ap (λ (l : List Row). l ++ cond b (row ∷ []) []) (filter_wider (is_held new.sets) (is_held kept.sets) (in_order all) wider)
           ∙ ap (λ (l : List Row). filter (is_held new.sets) (in_order all) ++ l) (sym (tail_if b row new.sets held))
           ∙ sym (filter-append (is_held new.sets) (in_order all) (row ∷ []))
-          ∙ sym (live_is (row ∷ all) (row ∷ all) new.sets tell_now);
-      sets = all_of (λ (s : SetKept). Summarizes s (numbers_of s.rule (row ∷ all))) new.sets summaries;
-      falling = (omega (arith, next_is), falling_more kept.next row.position all above stands.falling);
-      known = subst (λ (l : List SetRule). All (λ (r : Row). AreKnown l r.sets) (row ∷ all)) (sym rules_are)
-          (All-cons (λ (r : Row). AreKnown (rules_of kept) r.sets) row all known stands.known);
-    }
-      where
-        each_sum : Each (λ (s : SetKept). Summarizes s (numbers_of s.rule all)) kept.sets
-        each_sum = each_of (λ (s : SetKept). Summarizes s (numbers_of s.rule all)) kept.sets stands.sets
+          ∙ sym (live_is (row ∷ all) (row ∷ all) new.sets tell_now)
 
-        tell_before : Each (TellsAll all all) kept.sets
-        tell_before = each_map_with (IsSetSound kept.next) (λ (s : SetKept). Summarizes s (numbers_of s.rule all)) (TellsAll all all)
-            (λ s is sum. all_tell kept.next all stands.falling s is sum) kept.sets each_sound each_sum
+      pub stands_after : AreKnown (rules_of kept) row.sets → StandsFor new (row ∷ all)
+      stands_after known = record {
+        live = live_now;
+        sets = all_of (λ (s : SetKept). Summarizes s (numbers_of s.rule (row ∷ all))) new.sets summaries;
+        falling = falling_now;
+        known = subst (λ (l : List SetRule). All (λ (r : Row). AreKnown l r.sets) (row ∷ all)) (sym rules_are)
+            (All-cons (λ (r : Row). AreKnown (rules_of kept) r.sets) row all known stands.known);
+      }
 
-        summaries : Each (λ (s : SetKept). Summarizes s (numbers_of s.rule (row ∷ all))) new.sets
-        summaries = subst (λ (l : List SetKept). Each (λ (s : SetKept). Summarizes s (numbers_of s.rule (row ∷ all))) l) (sym sets_are)
-            (each_over (λ (s : SetKept). Summarizes s (numbers_of s.rule (row ∷ all))) (goes row) kept.sets
-            (each_map_with (IsSetSound kept.next) (λ (s : SetKept). Summarizes s (numbers_of s.rule all)) (λ (s : SetKept). Summarizes (goes row s) (numbers_of (goes row s).rule (row ∷ all)))
-            (λ s is sum. goes_summarizes kept.next all stands.falling row above s is sum) kept.sets each_sound each_sum))
-
-        falling_now : AreFalling new.next (row ∷ all)
-        falling_now = (omega (arith, next_is), falling_more kept.next row.position all above stands.falling)
-
-        tell_now : Each (TellsAll (row ∷ all) (row ∷ all)) new.sets
-        tell_now = each_map_with (IsSetSound new.next) (λ (s : SetKept). Summarizes s (numbers_of s.rule (row ∷ all))) (TellsAll (row ∷ all) (row ∷ all))
-            (λ s is sum. all_tell new.next (row ∷ all) falling_now s is sum) new.sets sets_sound summaries
-
-        wider : All (λ (r : Row). is_held new.sets r ≡ true → is_held kept.sets r ≡ true) (in_order all)
-        wider = ordered (λ (r : Row). is_held new.sets r ≡ true → is_held kept.sets r ≡ true) all
-            (each_map (λ (r : Row). r.position < kept.next) (λ (r : Row). is_held new.sets r ≡ true → is_held kept.sets r ≡ true)
-            (λ r lt h. held_earlier kept.next row r (omega (arith, lt, above)) above kept.sets each_sound (ap (λ (l : List SetKept). is_held l r) (sym sets_are) ∙ h))
-            all (falling_each kept.next all stands.falling))
+    pub stands_now : AreKnown (rules_of kept) row.sets → (all : List Row) → StandsFor kept all → StandsFor new (row ∷ all)
+    stands_now known all stands = stands_after all stands known

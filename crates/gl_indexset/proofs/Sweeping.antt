@@ -1,7 +1,7 @@
 -- Which rows a set holds after a row was stored, and what a sweep leaves.
 use Rattle.std.proofs.Common.{◌≡◌, ◌⊎◌, ⊎_elim, ℕ, zero, suc, ◌+◌, ◌<◌, ◌≤◌, ◌==◌, Bool, true, false, ◌&&◌, ◌||◌, cond, nat_le, List, [], ◌∷◌, ◌++◌, length, get_or, map, filter, take, drop, Option, Some, None, unwrap_or, refl, sym, ◌∙◌, ap, subst, arith}
 use Rattle.std.specs.Prelude.{slice_set}
-use Rattle.std.specs.List.{All, remove, slice_get}
+use Rattle.std.specs.List.{All, slice_get}
 use Rattle.std.proofs.lemmas.Bool.Decides.{nat_tests}
 use Rattle.std.proofs.lemmas.List.Elements.{All-head, All-tail}
 use Rattle.std.proofs.lemmas.List.Edits.{map_over_more}
@@ -13,20 +13,6 @@ use Rattle.gl_indexset.specs.Rising.{AreRising, AreBelow}
 use Rattle.gl_indexset.specs.SetKept.{SetKept, begun, drop_if, is_index_full, one_more, rotated, stored, with_newest, oldest_after, oldest_of, starts_by, is_held_by, is_held, goes, IsLined, IsSetSound, IsReadyFor}
 
 module _ {X : Type 0} (p : X → Bool) where
-  skip_cons : (b : Bool) (x : X) (xs ys : List X) → xs ≡ ys → ◌≡◌ {A = List X} (cond b (x ∷ xs) xs) (cond b (x ∷ ys) ys)
-  skip_cons true x xs ys so_far = ap (λ (l : List X). x ∷ l) so_far
-  skip_cons false x xs ys so_far = so_far
-
-  skip_here : (b : Bool) (x : X) (xs : List X) → b ≡ false → xs ≡ cond b (x ∷ xs) xs
-  skip_here true x xs fails = cc fails
-  skip_here false x xs fails = refl
-
-  -- an element that doesn't pass may be taken out before
-  pub filter-remove : (xs : List X) (i : ℕ) (d : X) → i < length xs → p (get_or xs i d) ≡ false → filter p (remove xs i) ≡ filter p xs
-  filter-remove [] i d lt fails = absurd (omega arith)
-  filter-remove (x ∷ xs) zero d lt fails = skip_here (p x) x (filter p xs) fails
-  filter-remove (x ∷ xs) (suc i) d lt fails = skip_cons (p x) x (filter p (remove xs i)) (filter p xs) (filter-remove xs i d (omega arith) fails)
-
   stays_cons : (b : Bool) (x : X) (xs ys : List X) → b ≡ true → ys ≡ xs → cond b (x ∷ ys) ys ≡ x ∷ xs
   stays_cons true x xs ys passes so_far = ap (λ (l : List X). x ∷ l) so_far
   stays_cons false x xs ys passes so_far = cc passes
@@ -196,20 +182,6 @@ module _ (rows : List Row) (n : ℕ) (row : Row) (rising : AreRising rows) (is :
       (λ (over : n < k). omega (arith, subst (λ (r : Row). r.position < (get_or rows k d).position) (got d) (rising n k d over within), le))
       (λ (same : k ≡ n). subst (λ (j : ℕ). to ≤ (get_or rows j d).position) (sym same) (subst (λ (r : Row). to ≤ r.position) (sym (got d)) le))
       (above_or k n from)
-
-low_or : (k n : ℕ) → (k < n) ⊎ (n ≤ k)
-low_or k n = grind arith
-
--- a sweep ends where the rest lies behind its range, or nothing is left
-pub all_held : (sets : List SetKept) (rows : List Row) (n to : ℕ)
-    → ((k : ℕ) (d : Row) → k < n → is_held sets (get_or rows k d) ≡ true)
-    → All (λ (row : Row). to ≤ row.position → is_held sets row ≡ true) rows
-    → ((k : ℕ) (d : Row) → n ≤ k → k < length rows → to ≤ (get_or rows k d).position)
-    → All (λ (row : Row). is_held sets row ≡ true) rows
-all_held sets rows n to held behind rest = λ k d lt. ⊎_elim
-    (λ (low : k < n). held k d low)
-    (λ (high : n ≤ k). behind k d lt (rest k d high lt))
-    (low_or k n)
 
 pub if_true : {X : Type 0} (b : Bool) (x y : X) → b ≡ true → ◌≡◌ {A = X} (cond b x y) x
 if_true true x y h = refl

@@ -1,10 +1,11 @@
 -- What a set keeps, and what a row changes of it.
-use Rattle.std.specs.Prelude.{ℕ, ◌+◌, ◌-◌, ◌≡◌, ◌<◌, ◌≤◌, Bool, false, not, ◌&&◌, ◌||◌, nat_le, ◌==◌, if◌then◌else◌, List, [], ◌∷◌, ◌++◌, length, drop, Option, Some, None}
+use Rattle.std.specs.Prelude.{ℕ, ◌+◌, ◌-◌, ◌≡◌, ◌<◌, ◌≤◌, Bool, false, not, ◌&&◌, ◌||◌, nat_le, ◌==◌, if◌then◌else◌, List, [], ◌∷◌, ◌++◌, length, drop, max, nat_lt, Option, Some, None}
 use Rattle.std.specs.List.{list_any}
 use Rattle.gl_indexset.specs.declared.row.Row.{Row}
 use Rattle.gl_indexset.specs.declared.row.SetRule.{SetRule}
 use Rattle.gl_indexset.specs.declared.set.Index.{Index}
 use Rattle.gl_indexset.specs.Retention.{is_in}
+use Rattle.gl_indexset.specs.Summary.{index_name}
 
 pub record SetKept : Type 0 where
   pub rule : SetRule
@@ -68,6 +69,21 @@ is_held sets row = list_any (is_held_by row) sets
 abbrev pub goes : Row → SetKept → SetKept
 goes row set = if is_in set.rule row then stored row.position row.moment set else set
 
+-- the first position at or above one of a row that leaves a set, by where its live rows begin before and after; the limit where none does
+abbrev pub first_lost : Option ℕ → Option ℕ → ℕ → ℕ → ℕ
+first_lost None after position limit = limit
+first_lost (Some before) None position limit = max before position
+first_lost (Some before) (Some after) position limit = if nat_lt (max before position) after then max before position else limit
+
+-- the live indexes with their names and rows
+abbrev pub named_from : List ℕ → ℕ → List Index → List (List ℕ × ℕ)
+named_from name number [] = []
+named_from name number (index ∷ indexes) = (index_name name number, index.rows) ∷ named_from name (number + 1) indexes
+
+abbrev pub indexes_kept : SetKept → List (List ℕ × ℕ)
+indexes_kept set =
+    if set.rule.keep == 0 then [] else named_from set.rule.name (set.number - length set.closed) (set.closed ++ set.newest ∷ [])
+
 -- the first positions of these indexes rise, from one position up and to another
 abbrev pub IsLined : ℕ → List Index → ℕ → Type 0
 IsLined low [] high = low ≤ high
@@ -77,6 +93,7 @@ IsLined low (index ∷ indexes) high = (low ≤ index.first) × IsLined index.fi
 pub record IsSetSound (position : ℕ) (set : SetKept) : Type 0 where
   pub above : set.newest.first + set.newest.rows ≤ position
   pub number : set.number ≤ set.newest.first
+  pub closed : length set.closed ≤ set.number
   pub lined : IsLined 0 set.closed set.newest.first
   pub starts : set.newest.rows ≡ 0 → (set.number ≡ 0) × (set.closed ≡ [])
 

@@ -7,6 +7,7 @@
 //! (`specs/Retention`). The sets keep of it the first positions of their live indexes and the live rows.
 #![tactic(auto)]
 
+mod leaving;
 mod row;
 mod set;
 mod sets;

@@ -1,13 +1,14 @@
 // One index set: which positions its live indexes begin at.
-ghost use Rattle.std.specs.Prelude.{◌≡◌, ◌==◌, ◌&&◌, ◌||◌, not, ◌+◌, ◌-◌, ◌^◌, ◌<◌, ◌≤◌, ℕ, [], length, nat_le, IsOk, OnOk, OnErr, Some, None};
+ghost use Rattle.std.specs.Prelude.{◌≡◌, ◌==◌, ◌&&◌, ◌||◌, not, ◌+◌, ◌-◌, ◌^◌, ◌<◌, ◌≤◌, ℕ, [], ◌∷◌, ◌++◌, if◌then◌else◌, length, nat_le, IfOk, IsOk, OnOk, OnErr, Some, None};
 ghost use Rattle.std.specs.List.{list_any};
 ghost use Rattle.std.specs.Str.{bytes_eq};
 ghost use Rattle.gl_fields.specs.Fields.{comes_before};
 ghost use Rattle.gl_indexset.specs.Retention.{is_in};
-ghost use Rattle.gl_indexset.specs.SetKept.{SetKept, begun, is_index_full, is_old, stored, rotated, oldest_of, is_held_by};
+ghost use Rattle.gl_indexset.specs.SetKept.{SetKept, begun, is_index_full, is_old, stored, rotated, goes, oldest_of, is_held_by, first_lost, indexes_kept};
+ghost use Rattle.gl_indexset.specs.Summary.{index_name};
 
 use crate::row::{Row, SetRule};
-use gl_base::Text;
+use gl_base::{Items, Text};
 use std::alloc::{AllocError, Global};
 use std::cmp::Ordering;
 use std::collections::VecDeque;
@@ -68,6 +69,13 @@ impl IndexSet {
         is_before(name, self.rule.name.as_str())
     }
 
+    /// Whether the set has this name.
+    pub(crate) fn has_name(&self, name: &str) -> bool
+        ensures { result ≡ bytes_eq name.now self.now.rule.name }
+    {
+        name == self.rule.name.as_str()
+    }
+
     /// Whether a row goes into this set.
     pub(crate) fn takes(&self, row: &Row) -> bool
         ensures { result ≡ is_in self.now.rule row.now }
@@ -99,6 +107,102 @@ impl IndexSet {
             None => false,
             Some(first) => first <= row.position,
         }
+    }
+
+    /// The position of the first live row once this row is stored.
+    pub(crate) fn oldest_after(&self, row: &Row) -> Option<u64>
+        ensures { result ≡ oldest_of (goes row.now self.now) }
+    {
+        if self.takes(row) {
+            self.oldest_with(row.position, row.moment)
+        } else {
+            self.oldest()
+        }
+    }
+
+    // The position of the first live row once one of this position and moment is in the set.
+    fn oldest_with(&self, position: u64, moment: u64) -> Option<u64>
+        ensures { result ≡ oldest_of (stored position moment self.now) }
+    {
+        if self.newest.rows == 0 {
+            return match self.closed.front() {
+                Some(index) => Some(index.first),
+                None => self.kept_first(position),
+            };
+        }
+        if !self.is_full(moment) || self.closed.len() as u64 + 1 < self.rule.keep {
+            return self.oldest();
+        }
+        if let Some(index) = self.closed.get(1) {
+            return Some(index.first);
+        }
+        if self.closed.is_empty() {
+            self.kept_first(position)
+        } else {
+            Some(self.newest.first)
+        }
+    }
+
+    // A row that is the first of its set is live where any is kept.
+    fn kept_first(&self, position: u64) -> Option<u64>
+        ensures { result ≡ (if self.now.rule.keep == 0 then None else Some position) }
+    {
+        if self.rule.keep == 0 {
+            None
+        } else {
+            Some(position)
+        }
+    }
+
+    /// Whether a row that was stored is live in this set once another is stored.
+    pub(crate) fn holds_after(&self, row: &Row, other: &Row) -> bool
+        ensures { result ≡ is_held_by other.now (goes row.now self.now) }
+    {
+        if !self.takes(other) {
+            return false;
+        }
+        match self.oldest_after(row) {
+            None => false,
+            Some(first) => first <= other.position,
+        }
+    }
+
+    /// The first position at or above this one of a row that leaves the set when another row is
+    /// stored; `u64::MAX` where none does.
+    pub(crate) fn first_lost(&self, row: &Row, position: u64) -> u64
+        ensures { result ≡ first_lost (oldest_of self.now) (oldest_of (goes row.now self.now)) position (2 ^ 64 - 1) }
+    {
+        let Some(before) = self.oldest() else {
+            return u64::MAX;
+        };
+        let first = before.max(position);
+        match self.oldest_after(row) {
+            Some(after) if first >= after => u64::MAX,
+            _ => first,
+        }
+    }
+
+    /// Appends the live indexes with their names and rows, by number.
+    pub(crate) fn list(
+        &self,
+        alloc: Global,
+        found: &mut Items<(Text, u64)>,
+    ) -> Result<(), AllocError>
+        requires { length self.now.closed ≤ self.now.number }
+        ensures { OnOk result (found.new ≡ found.old ++ indexes_kept self.now) }
+    {
+        if self.rule.keep == 0 {
+            return Ok(());
+        }
+        let name = self.rule.name.as_str();
+        let first = self.number - self.closed.len() as u64;
+        for at in 0..self.closed.len() {
+            let closed = index_name(alloc, name, first + at as u64)?;
+            found.push((closed, self.closed[at].rows))?;
+        }
+        let newest = index_name(alloc, name, self.number)?;
+        found.push((newest, self.newest.rows))?;
+        Ok(())
     }
 
     /// Makes room for so many indexes more.
@@ -153,6 +257,13 @@ impl IndexSet {
             self.newest.rows += 1;
         }
     }
+}
+
+// The name of an index: its set's, `_` and its number.
+fn index_name(alloc: Global, name: &str, number: u64) -> Result<Text, AllocError>
+    ensures { IfOk result (λ text. text ≡ index_name name.now number) }
+{
+    Ok(Text::from_string(format!(in alloc; "{name}_{number}")?))
 }
 
 fn is_named(names: &[Text], name: &str) -> bool

@@ -1,17 +1,22 @@
 // The sets together, and the live rows.
-ghost use Rattle.std.specs.Prelude.{◌≡◌, ◌+◌, ◌<◌, ◌≤◌, ◌^◌, ◌-◌, ℕ, List, [], ◌∷◌, false, length, Some, slice_get, IfOk, OnOk, OnErr};
+ghost use Rattle.std.specs.Prelude.{◌≡◌, ◌+◌, ◌<◌, ◌≤◌, ◌^◌, ◌-◌, ℕ, List, [], ◌∷◌, false, length, Some, slice_get, IfOk, IfSome, OnOk, OnErr};
 ghost use Rattle.gl_indexset.specs.declared.row.Row.{Row};
-ghost use Rattle.std.specs.List.{All, position};
+ghost use Rattle.std.specs.List.{All, flat_map, list_any, position};
+ghost use Rattle.std.specs.Str.{bytes_eq};
 ghost use Rattle.gl_fields.specs.Fields.{comes_before};
 ghost use Rattle.gl_indexset.specs.Kept.{AreKnown, StandsFor, is_known, rules_of, spare_of};
-ghost use Rattle.gl_indexset.specs.Retention.{with_rule};
-ghost use Rattle.gl_indexset.specs.SetKept.{AreRoomier};
+ghost use Rattle.gl_indexset.specs.Retention.{with_rule, live_rows};
+ghost use Rattle.gl_indexset.specs.SetKept.{AreRoomier, indexes_kept};
+ghost use Rattle.gl_indexset.specs.Leaving.{IsNextLeaving};
+ghost use Rattle.gl_indexset.specs.Summary.{summary_of};
 
+use crate::leaving::next_unheld;
 use crate::row::{Row, SetRule};
 use crate::set::IndexSet;
 use crate::shelf::Shelf;
 use crate::steps::Steps;
 use crate::sweep::{enter_all, is_held};
+use gl_base::{Items, Text};
 use std::alloc::{AllocError, Global};
 use std::marker::Model;
 use std::sync::ledger::Ledger;
@@ -53,7 +58,7 @@ impl IndexSets {
         }
     }
 
-    /// Adds a set, which has no rows.
+    /// Adds a set, which has no rows; there is none of its name yet (`has_set`).
     ///
     /// An error changes nothing. There may be no room for rows afterwards.
     pub fn add_set(&mut self, rule: SetRule) -> Result<(), AllocError>
@@ -68,6 +73,13 @@ impl IndexSets {
         let at = after.unwrap_or(self.sets.len());
         self.sets.insert(at, IndexSet::new(self.alloc, rule))?;
         Ok(())
+    }
+
+    /// Whether there is a set of this name.
+    pub fn has_set(&self, name: &str) -> bool
+        ensures { result ≡ is_known (rules_of self.now) name.now }
+    {
+        has_name(self.sets.as_slice(), name)
     }
 
     /// How many rows are live.
@@ -85,6 +97,25 @@ impl IndexSets {
     {
         steps.tick();
         self.rows.get(n as usize)
+    }
+
+    /// Each live index with how many rows it has, by the sets' names and then by number. The name of an
+    /// index is its set's, `_` and its number: `graylog_0`.
+    pub fn summary(&self) -> Result<Items<(Text, u64)>, AllocError>
+        ensures { (all : List Row) → StandsFor self.now all → IfOk result (λ found. found ≡ summary_of (rules_of self.now) all) }
+    {
+        list_all(self.sets.as_slice(), self.alloc)
+    }
+
+    /// The least `n` at or above `from` whose live row leaves when this row is stored, and `None` where
+    /// there is none. It changes nothing, and takes no memory.
+    pub fn next_leaving(&self, row: &Row, from: u64) -> Option<u64>
+        requires { self.now.next ≤ row.now.position }
+        ensures within { IfSome result (λ n. n < length self.now.rows) }
+        ensures leaving { (all : List Row) → StandsFor self.now all
+            → IsNextLeaving (live_rows (rules_of self.now) all) (live_rows (rules_of self.now) (row.now ∷ all)) from result }
+    {
+        next_unheld(&self.rows, self.sets.as_slice(), row, from)
     }
 
     /// Makes room to store so many rows. An error changes nothing but the room.
@@ -120,6 +151,25 @@ impl IndexSets {
             self.rows.push(row);
         }
     }
+}
+
+// The live indexes of all these sets.
+fn list_all(sets: &[IndexSet], alloc: Global) -> Result<Items<(Text, u64)>, AllocError>
+    requires { All (λ set. length set.closed ≤ set.number) sets.now }
+    ensures { IfOk result (λ found. found ≡ flat_map indexes_kept sets.now) }
+{
+    let mut found = Items::new(alloc);
+    for set in sets {
+        set.list(alloc, &mut found)?;
+    }
+    Ok(found)
+}
+
+// Whether one of these sets has this name.
+fn has_name(sets: &[IndexSet], name: &str) -> bool
+    ensures { result ≡ list_any (λ set. bytes_eq name.now set.rule.name) sets.now }
+{
+    sets.iter().any(|set| set.has_name(name))
 }
 
 // The index of the first set whose name comes after this one.

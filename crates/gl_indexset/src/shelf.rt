@@ -1,6 +1,6 @@
 // The live rows, in order of position.
 ghost use Rattle.std.specs.Prelude.{◌≡◌, ◌+◌, ◌-◌, ◌<◌, ◌≤◌, [], ◌∷◌, ◌++◌, length, Some, slice_get, slice_index_or, OnOk, OnErr, IsOk};
-ghost use Rattle.std.specs.List.{remove};
+ghost use Rattle.std.specs.List.{swap, remove_range};
 ghost use Rattle.gl_indexset.specs.Shelved.{Shelved};
 
 use crate::row::Row;
@@ -8,8 +8,7 @@ use std::alloc::{AllocError, Global};
 use std::collections::VecDeque;
 use std::marker::Model;
 
-/// A list of rows from which any row is taken by its place. It moves the fewer of the rows before it
-/// and behind it, so the oldest row is taken at once.
+/// A list of rows from which those of a range of places are taken together.
 #[derive(Drop)]
 pub(crate) struct Shelf {
     rows: VecDeque<Row>,
@@ -63,12 +62,23 @@ impl Shelf {
         self.rows.push_back_reserved(row);
     }
 
-    /// Takes the row at this place out.
-    pub(crate) fn remove(&mut self, n: usize)
-        requires { n < length self.old.rows }
-        ensures rows { self.new.rows ≡ remove self.old.rows n }
+    /// Puts two rows into each other's place.
+    pub(crate) fn swap(&mut self, a: usize, b: usize)
+        requires a { a < length self.old.rows }
+        requires b { b < length self.old.rows }
+        ensures { self.new ≡ record { rows = swap self.old.rows a b; spare = self.old.spare } }
+    {
+        self.rows.swap(a, b);
+    }
+
+    /// Takes the rows from one place on and before another out. It moves the fewer of the rows before
+    /// them and behind them.
+    pub(crate) fn remove_range(&mut self, from: usize, to: usize)
+        requires order { from ≤ to }
+        requires within { to ≤ length self.old.rows }
+        ensures rows { self.new.rows ≡ remove_range self.old.rows from to }
         ensures spare { self.old.spare ≤ self.new.spare }
     {
-        let _ = self.rows.remove(n);
+        self.rows.drain(from..to);
     }
 }

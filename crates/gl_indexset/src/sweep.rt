@@ -16,11 +16,12 @@ pub(crate) fn is_held(sets: &[IndexSet], row: &Row) -> bool
     sets.iter().any(|set| set.holds(row))
 }
 
-// The place of the first row at or above a position.
-fn first_from(rows: &Shelf, position: u64) -> usize
+/// The place of the first row at or above a position.
+pub(crate) fn first_from(rows: &Shelf, position: u64) -> usize
     requires { AreRising rows.now.rows }
     ensures within { result ≤ length rows.now.rows }
     ensures before { (k : ℕ) (d : Row) → k < result → (slice_index_or rows.now.rows k d).position < position }
+    ensures behind { (k : ℕ) (d : Row) → result ≤ k → k < length rows.now.rows → position ≤ (slice_index_or rows.now.rows k d).position }
 {
     let mut low = 0;
     let mut high = rows.len();
@@ -37,6 +38,7 @@ fn first_from(rows: &Shelf, position: u64) -> usize
 
 // Takes out the rows from one position on and before another that aren't live in any set.
 fn sweep(rows: &mut Shelf, sets: &[IndexSet], from: u64, to: u64)
+    requires order { from ≤ to }
     requires rising { AreRising rows.old.rows }
     requires before { All (λ row. row.position < from → is_held sets.now row ≡ true) rows.old.rows }
     requires behind { All (λ row. to ≤ row.position → is_held sets.now row ≡ true) rows.old.rows }
@@ -44,18 +46,16 @@ fn sweep(rows: &mut Shelf, sets: &[IndexSet], from: u64, to: u64)
     ensures rising { AreRising rows.new.rows }
     ensures spare { rows.old.spare ≤ rows.new.spare }
 {
-    let mut n = first_from(rows, from);
-    while n < rows.len() {
-        let row = rows.get(n);
-        if row.position >= to {
-            break;
-        }
-        if is_held(sets, row) {
-            n += 1;
-        } else {
-            rows.remove(n);
+    let first = first_from(rows, from);
+    let last = first_from(rows, to);
+    let mut kept = first;
+    for n in first..last {
+        if is_held(sets, rows.get(n)) {
+            rows.swap(kept, n);
+            kept += 1;
         }
     }
+    rows.remove_range(kept, last);
 }
 
 // Stores a row in the set at an index, where it names it, and takes out the rows that are live in no set any more.

@@ -1,5 +1,5 @@
-ghost use Rattle.std.specs.Prelude.{◌≡◌, ◌∷◌, [], true, ◌<◌, ◌≤◌, ◌^◌, ◌-◌, ◌+◌, IfOk, codes};
-ghost use Rattle.gl_indexset.specs.Kept.{is_known, rules_of};
+ghost use Rattle.std.specs.Prelude.{◌≡◌, ◌<◌, ◌≤◌, ◌^◌, ◌-◌, ◌+◌, IfOk, length};
+ghost use Rattle.gl_indexset.specs.Kept.{AreKnown, rules_of};
 
 use crate::{IndexSets, Row, SetRule, Steps};
 use gl_base::{Items, Text};
@@ -9,87 +9,77 @@ use std::marker::Brand;
 use std::sync::ledger::{Blank, Ledger};
 use std::test::Fail;
 
-fn one_set(
-    alloc: Global,
-    name: &str,
+struct Set {
+    name: &'static str,
     max_docs: u64,
     max_ms: u64,
     keep: u64,
-) -> Result<IndexSets, AllocError>
-    ensures { IfOk result (λ all. (is_known (rules_of all) name.now ≡ true) × (all.next ≡ 0)) }
-{
-    let mut all = IndexSets::new(alloc);
-    let rule = SetRule {
-        name: Text::from_str(alloc, name)?,
-        max_docs,
-        max_ms,
-        keep,
-    };
-    all.add_set(rule)?;
-    Ok(all)
 }
 
-// Two sets: `a` keeps one index of two rows, `b` three of one row each.
-fn two_sets(alloc: Global) -> Result<IndexSets, AllocError>
-    ensures a { IfOk result (λ all. is_known (rules_of all) (codes "a") ≡ true) }
-    ensures b { IfOk result (λ all. is_known (rules_of all) (codes "b") ≡ true) }
-    ensures next { IfOk result (λ all. all.next ≡ 0) }
-{
-    let mut all = IndexSets::new(alloc);
-    all.add_set(SetRule {
-        name: Text::from_str(alloc, "a")?,
-        max_docs: 2,
-        max_ms: 0,
-        keep: 1,
-    })?;
-    all.add_set(SetRule {
-        name: Text::from_str(alloc, "b")?,
-        max_docs: 1,
-        max_ms: 0,
-        keep: 3,
-    })?;
-    Ok(all)
-}
-
-// A row that names two sets, or one twice.
-fn row(
-    alloc: Global,
-    position: u64,
+#[derive(Clone, Copy)]
+struct Stored {
     moment: u64,
-    first: &str,
-    second: &str,
-) -> Result<Row, AllocError>
-    ensures { IfOk result (λ r. (r.position ≡ position) × (r.sets ≡ first.now ∷ (second.now ∷ []))) }
+    sets: &'static [&'static str],
+}
+
+// Sets, the rows that come at the positions from 0 on, and what is live then.
+struct Case {
+    sets: &'static [Set],
+    rows: &'static [Stored],
+    live: &'static [u64],
+    indexes: &'static [(&'static str, u64)],
+}
+
+fn with_sets(alloc: Global, sets: &[Set]) -> Result<IndexSets, AllocError>
+    ensures { IfOk result (λ all. all.next ≡ 0) }
 {
-    let mut sets = Items::new(alloc);
-    sets.push(Text::from_str(alloc, first)?)?;
-    sets.push(Text::from_str(alloc, second)?)?;
+    let mut all = IndexSets::new(alloc);
+    for set in sets {
+        if !all.has_set(set.name) {
+            all.add_set(SetRule {
+                name: Text::from_str(alloc, set.name)?,
+                max_docs: set.max_docs,
+                max_ms: set.max_ms,
+                keep: set.keep,
+            })?;
+        }
+    }
+    Ok(all)
+}
+
+// The names of those of these sets that are there.
+fn names(alloc: Global, all: &IndexSets, names: &[&str]) -> Result<Items<Text>, AllocError>
+    ensures { IfOk result (λ found. AreKnown (rules_of all.now) found) }
+{
+    let mut found = Items::new(alloc);
+    for name in names {
+        if all.has_set(name) {
+            found.push(Text::from_str(alloc, name)?)?;
+        }
+    }
+    Ok(found)
+}
+
+fn row(alloc: Global, all: &IndexSets, position: u64, stored: &Stored) -> Result<Row, AllocError>
+    ensures position { IfOk result (λ row. row.position ≡ position) }
+    ensures known { IfOk result (λ row. AreKnown (rules_of all.now) row.sets) }
+{
     Ok(Row {
         position,
-        moment,
+        moment: stored.moment,
         streams: Items::new(alloc),
-        sets,
+        sets: names(alloc, all, stored.sets)?,
         fields: FieldMap::new(alloc),
     })
 }
 
 // Stores a row at a position, and makes room for it.
-fn put(
-    all: &mut IndexSets,
-    alloc: Global,
-    position: u64,
-    moment: u64,
-    first: &str,
-    second: &str,
-) -> Result<(), AllocError>
-    requires first { is_known (rules_of all.old) first.now ≡ true }
-    requires second { is_known (rules_of all.old) second.now ≡ true }
+fn put(all: &mut IndexSets, alloc: Global, position: u64, stored: &Stored) -> Result<(), AllocError>
     requires above { all.old.next ≤ position }
     requires counted { position < 2 ^ 64 - 1 }
-    ensures rules { rules_of all.new ≡ rules_of all.old }
-    ensures next { all.new.next ≤ position + 1 }
+    ensures { all.new.next ≤ position + 1 }
 {
-    let row = row(alloc, position, moment, first, second)?;
+    let row = row(alloc, all, position, stored)?;
     let mut rows = Vec::new(alloc);
     rows.push(row)?;
     all.reserve(rows.as_slice())?;
@@ -97,6 +87,16 @@ fn put(
         all.store(row);
     }
     Ok(())
+}
+
+fn filled(alloc: Global, sets: &[Set], rows: &[Stored]) -> Result<IndexSets, AllocError>
+    ensures { IfOk result (λ all. all.next ≤ length rows.now) }
+{
+    let mut all = with_sets(alloc, sets)?;
+    for (at, stored) in rows.iter().enumerate() {
+        put(&mut all, alloc, at as u64, stored)?;
+    }
+    Ok(all)
 }
 
 // The positions of the live rows.
@@ -121,65 +121,412 @@ fn live(alloc: Global, all: &IndexSets) -> Result<Vec<u64>, AllocError> {
     live_from::<Brand>(alloc, all, Blank::new(1))
 }
 
-// Two rows an index and two indexes: of five rows the last three are live.
+// Whether the live indexes have these names and rows.
+fn is_summary(all: &IndexSets, wanted: &[(&str, u64)]) -> Result<bool, AllocError> {
+    let found = all.summary()?;
+    Ok(
+        found.len() == wanted.len()
+            && found.as_slice().iter().zip(wanted).all(|(index, other)| index.0.as_str() == other.0
+                && index.1 == other.1),
+    )
+}
+
+fn is_case(alloc: Global, case: &Case) -> Result<bool, AllocError> {
+    let all = filled(alloc, case.sets, case.rows)?;
+    Ok(live(alloc, &all)?.as_slice() == case.live && is_summary(&all, case.indexes)?)
+}
+
+const CASES: [Case; 12] = [
+    // Two rows an index and two indexes.
+    Case {
+        sets: &[Set {
+            name: "a",
+            max_docs: 2,
+            max_ms: 0,
+            keep: 2,
+        }],
+        rows: &[
+            Stored {
+                moment: 100,
+                sets: &["a"],
+            },
+            Stored {
+                moment: 100,
+                sets: &["a"],
+            },
+            Stored {
+                moment: 100,
+                sets: &["a"],
+            },
+            Stored {
+                moment: 100,
+                sets: &["a"],
+            },
+        ],
+        live: &[0, 1, 2, 3],
+        indexes: &[("a_0", 2), ("a_1", 2)],
+    },
+    // Of five rows the last three are live; a row that names a set twice is in it once.
+    Case {
+        sets: &[Set {
+            name: "a",
+            max_docs: 2,
+            max_ms: 0,
+            keep: 2,
+        }],
+        rows: &[
+            Stored {
+                moment: 100,
+                sets: &["a", "a"],
+            },
+            Stored {
+                moment: 100,
+                sets: &["a", "a"],
+            },
+            Stored {
+                moment: 100,
+                sets: &["a", "a"],
+            },
+            Stored {
+                moment: 100,
+                sets: &["a", "a"],
+            },
+            Stored {
+                moment: 100,
+                sets: &["a", "a"],
+            },
+        ],
+        live: &[2, 3, 4],
+        indexes: &[("a_1", 2), ("a_2", 1)],
+    },
+    // An index of one second.
+    Case {
+        sets: &[Set {
+            name: "a",
+            max_docs: 0,
+            max_ms: 1000,
+            keep: 1,
+        }],
+        rows: &[
+            Stored {
+                moment: 100,
+                sets: &["a"],
+            },
+            Stored {
+                moment: 1099,
+                sets: &["a"],
+            },
+        ],
+        live: &[0, 1],
+        indexes: &[("a_0", 2)],
+    },
+    // The row that comes a second after its first begins a new one.
+    Case {
+        sets: &[Set {
+            name: "a",
+            max_docs: 0,
+            max_ms: 1000,
+            keep: 1,
+        }],
+        rows: &[
+            Stored {
+                moment: 100,
+                sets: &["a"],
+            },
+            Stored {
+                moment: 1099,
+                sets: &["a"],
+            },
+            Stored {
+                moment: 1100,
+                sets: &["a"],
+            },
+        ],
+        live: &[2],
+        indexes: &[("a_1", 1)],
+    },
+    // One row an index and one index: the last row is live.
+    Case {
+        sets: &[Set {
+            name: "a",
+            max_docs: 1,
+            max_ms: 0,
+            keep: 1,
+        }],
+        rows: &[
+            Stored {
+                moment: 100,
+                sets: &["a"],
+            },
+            Stored {
+                moment: 90,
+                sets: &["a"],
+            },
+            Stored {
+                moment: 200,
+                sets: &["a"],
+            },
+        ],
+        live: &[2],
+        indexes: &[("a_2", 1)],
+    },
+    // A moment that falls begins no index, and the first row's counts.
+    Case {
+        sets: &[Set {
+            name: "a",
+            max_docs: 0,
+            max_ms: 10,
+            keep: 2,
+        }],
+        rows: &[
+            Stored {
+                moment: 100,
+                sets: &["a"],
+            },
+            Stored {
+                moment: 5,
+                sets: &["a"],
+            },
+            Stored {
+                moment: 109,
+                sets: &["a"],
+            },
+            Stored {
+                moment: 110,
+                sets: &["a"],
+            },
+            Stored {
+                moment: 119,
+                sets: &["a"],
+            },
+            Stored {
+                moment: 120,
+                sets: &["a"],
+            },
+        ],
+        live: &[3, 4, 5],
+        indexes: &[("a_1", 2), ("a_2", 1)],
+    },
+    // A set begins with an empty index.
+    Case {
+        sets: &[Set {
+            name: "a",
+            max_docs: 2,
+            max_ms: 0,
+            keep: 2,
+        }],
+        rows: &[],
+        live: &[],
+        indexes: &[("a_0", 0)],
+    },
+    // A set may keep none.
+    Case {
+        sets: &[Set {
+            name: "a",
+            max_docs: 1,
+            max_ms: 0,
+            keep: 0,
+        }],
+        rows: &[
+            Stored {
+                moment: 100,
+                sets: &["a"],
+            },
+            Stored {
+                moment: 100,
+                sets: &["a"],
+            },
+        ],
+        live: &[],
+        indexes: &[],
+    },
+    // Two sets with rules of their own: the next row in both drops the second row, and the first stays in `b`.
+    Case {
+        sets: &[
+            Set {
+                name: "b",
+                max_docs: 1,
+                max_ms: 0,
+                keep: 3,
+            },
+            Set {
+                name: "a",
+                max_docs: 2,
+                max_ms: 0,
+                keep: 1,
+            },
+        ],
+        rows: &[
+            Stored {
+                moment: 100,
+                sets: &["a", "b"],
+            },
+            Stored {
+                moment: 100,
+                sets: &["a"],
+            },
+        ],
+        live: &[0, 1],
+        indexes: &[("a_0", 2), ("b_0", 1)],
+    },
+    // A row is live while one of its sets keeps it.
+    Case {
+        sets: &[
+            Set {
+                name: "b",
+                max_docs: 1,
+                max_ms: 0,
+                keep: 3,
+            },
+            Set {
+                name: "a",
+                max_docs: 2,
+                max_ms: 0,
+                keep: 1,
+            },
+        ],
+        rows: &[
+            Stored {
+                moment: 100,
+                sets: &["a", "b"],
+            },
+            Stored {
+                moment: 100,
+                sets: &["a"],
+            },
+            Stored {
+                moment: 100,
+                sets: &["a", "b"],
+            },
+        ],
+        live: &[0, 2],
+        indexes: &[("a_1", 1), ("b_0", 1), ("b_1", 1)],
+    },
+    // The same, a while later.
+    Case {
+        sets: &[
+            Set {
+                name: "b",
+                max_docs: 1,
+                max_ms: 0,
+                keep: 3,
+            },
+            Set {
+                name: "a",
+                max_docs: 2,
+                max_ms: 0,
+                keep: 1,
+            },
+        ],
+        rows: &[
+            Stored {
+                moment: 100,
+                sets: &["a", "b"],
+            },
+            Stored {
+                moment: 100,
+                sets: &["a"],
+            },
+            Stored {
+                moment: 100,
+                sets: &["a", "b"],
+            },
+            Stored {
+                moment: 100,
+                sets: &["b"],
+            },
+            Stored {
+                moment: 100,
+                sets: &["b"],
+            },
+            Stored {
+                moment: 100,
+                sets: &["b"],
+            },
+        ],
+        live: &[2, 3, 4, 5],
+        indexes: &[("a_1", 1), ("b_2", 1), ("b_3", 1), ("b_4", 1)],
+    },
+    // A row in three sets is live once, and counts in each.
+    Case {
+        sets: &[
+            Set {
+                name: "c",
+                max_docs: 1,
+                max_ms: 0,
+                keep: 3,
+            },
+            Set {
+                name: "a",
+                max_docs: 1,
+                max_ms: 0,
+                keep: 1,
+            },
+            Set {
+                name: "b",
+                max_docs: 2,
+                max_ms: 0,
+                keep: 1,
+            },
+        ],
+        rows: &[
+            Stored {
+                moment: 100,
+                sets: &["a", "b", "c"],
+            },
+            Stored {
+                moment: 100,
+                sets: &["a", "b", "c"],
+            },
+            Stored {
+                moment: 100,
+                sets: &["a", "b", "c"],
+            },
+            Stored {
+                moment: 100,
+                sets: &["a", "b", "c"],
+            },
+        ],
+        live: &[1, 2, 3],
+        indexes: &[("a_3", 1), ("b_1", 2), ("c_1", 1), ("c_2", 1), ("c_3", 1)],
+    },
+];
+
 #[test]
-fn an_index_takes_so_many_rows(rt: HostRuntime) -> Result<(), Fail> {
-    let alloc = rt.alloc();
-    let mut all = one_set(alloc, "a", 2, 0, 2)?;
-    put(&mut all, alloc, 0, 100, "a", "a")?;
-    put(&mut all, alloc, 1, 100, "a", "a")?;
-    put(&mut all, alloc, 2, 100, "a", "a")?;
-    put(&mut all, alloc, 3, 100, "a", "a")?;
-    assert_eq!(rt; live(alloc, &all)?.as_slice(), [0, 1, 2, 3].as_slice());
-    put(&mut all, alloc, 4, 100, "a", "a")?;
-    assert_eq!(rt; live(alloc, &all)?.as_slice(), [2, 3, 4].as_slice());
+fn what_is_live_follows_the_rules(rt: HostRuntime) -> Result<(), Fail> {
+    let mut all = true;
+    for case in &CASES {
+        all = is_case(rt.alloc(), case)? && all;
+    }
+    assert!(rt; all);
     Ok(())
 }
 
-// An index of one second: the row that comes a second after its first begins a new one.
-#[test]
-fn an_index_takes_rows_for_so_long(rt: HostRuntime) -> Result<(), Fail> {
-    let alloc = rt.alloc();
-    let mut all = one_set(alloc, "a", 0, 1000, 1)?;
-    put(&mut all, alloc, 0, 100, "a", "a")?;
-    put(&mut all, alloc, 1, 1099, "a", "a")?;
-    assert_eq!(rt; live(alloc, &all)?.as_slice(), [0, 1].as_slice());
-    put(&mut all, alloc, 2, 1100, "a", "a")?;
-    assert_eq!(rt; live(alloc, &all)?.as_slice(), [2].as_slice());
-    Ok(())
+// What leaves where this row comes next, from each of these places on.
+fn are_leaving(
+    alloc: Global,
+    case: &Case,
+    next: &Stored,
+    wanted: [Option<u64>; 3],
+) -> Result<bool, AllocError> {
+    let all = filled(alloc, case.sets, case.rows)?;
+    let row = row(alloc, &all, case.rows.len() as u64, next)?;
+    Ok(
+        all.next_leaving(&row, 0) == wanted[0]
+            && all.next_leaving(&row, 1) == wanted[1]
+            && all.next_leaving(&row, 2) == wanted[2],
+    )
 }
 
-// One row an index and one index; a moment that falls begins no index.
+// The fifth row drops the first two. What another set keeps stays.
 #[test]
-fn only_the_last_row_is_live(rt: HostRuntime) -> Result<(), Fail> {
+fn rows_are_named_before_they_leave(rt: HostRuntime) -> Result<(), Fail> {
     let alloc = rt.alloc();
-    let mut all = one_set(alloc, "a", 1, 0, 1)?;
-    put(&mut all, alloc, 3, 100, "a", "a")?;
-    put(&mut all, alloc, 7, 90, "a", "a")?;
-    assert_eq!(rt; live(alloc, &all)?.as_slice(), [7].as_slice());
-    let mut falling = one_set(alloc, "b", 0, 10, 1)?;
-    put(&mut falling, alloc, 0, 100, "b", "b")?;
-    put(&mut falling, alloc, 1, 5, "b", "b")?;
-    put(&mut falling, alloc, 2, 109, "b", "b")?;
-    assert_eq!(rt; live(alloc, &falling)?.as_slice(), [0, 1, 2].as_slice());
-    put(&mut falling, alloc, 3, 110, "b", "b")?;
-    assert_eq!(rt; live(alloc, &falling)?.as_slice(), [3].as_slice());
-    Ok(())
-}
-
-// Two sets with rules of their own: a row is live, once, while one of its sets keeps it.
-#[test]
-fn a_row_is_live_while_one_set_keeps_it(rt: HostRuntime) -> Result<(), Fail> {
-    let alloc = rt.alloc();
-    let mut all = two_sets(alloc)?;
-    put(&mut all, alloc, 0, 100, "a", "b")?;
-    put(&mut all, alloc, 1, 100, "a", "a")?;
-    put(&mut all, alloc, 2, 100, "a", "b")?;
-    assert_eq!(rt; live(alloc, &all)?.as_slice(), [0, 2].as_slice());
-    put(&mut all, alloc, 3, 100, "b", "b")?;
-    put(&mut all, alloc, 4, 100, "b", "b")?;
-    assert_eq!(rt; live(alloc, &all)?.as_slice(), [2, 3, 4].as_slice());
-    put(&mut all, alloc, 5, 100, "b", "b")?;
-    assert_eq!(rt; live(alloc, &all)?.as_slice(), [2, 3, 4, 5].as_slice());
+    let next = Stored {
+        moment: 100,
+        sets: &["a", "b"],
+    };
+    assert!(rt; are_leaving(alloc, &CASES[0], &next, [Some(0), Some(1), None])?);
+    assert!(rt; are_leaving(alloc, &CASES[8], &next, [Some(1), Some(1), None])?);
     Ok(())
 }

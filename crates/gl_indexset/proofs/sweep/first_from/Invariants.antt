@@ -8,6 +8,7 @@ invariant-loop-low l = record {
   order : l.low ≤ l.high;
   within : l.high ≤ length l.rows.rows;
   before : (k : ℕ) (d : Row) → k < l.low → (slice_index_or l.rows.rows k d).position < l.position;
+  behind : (k : ℕ) (d : Row) → l.high ≤ k → k < length l.rows.rows → l.position ≤ (slice_index_or l.rows.rows k d).position;
 }
 
 abbrev pub decreases-loop-low : goal.decreases-loop-low

@@ -1,40 +1,80 @@
-use Rattle.std.proofs.Common.{◌≡◌, ◌<◌, ◌≤◌, true, false, length, get_or, sym, ◌∙◌, ap, arith}
-use Rattle.std.proofs.lemmas.List.Edits.{get_or-remove_below, length-remove}
-use Rattle.std.proofs.lemmas.List.Quantifiers.{all_pairs_remove}
-use Rattle.std.proofs.lemmas.Option.{get_or_from_slice_get}
-use Rattle.gl_base.proofs.Counting.{All-remove}
+use Rattle.std.proofs.Common.{◌≡◌, ◌+◌, ◌<◌, ◌≤◌, List, length, take, drop, refl, sym, ◌∙◌, ap, subst, arith}
+use Rattle.std.specs.List.{AllPairs, remove_range, swap}
+use Rattle.std.proofs.lemmas.List.Kept.{AllPairs-filter}
 use Rattle.gl_indexset.specs.declared.row.Row.{Row}
 use Rattle.gl_indexset.specs.SetKept.{is_held}
-use Rattle.gl_indexset.proofs.Sweeping.{filter-remove, filter_all, above_here, all_held}
+use Rattle.gl_indexset.specs.Shelved.{Shelved}
+use Rattle.gl_indexset.proofs.Compacting.{compacted, front_dropped, front_first, front_kept, in_turn, rest_dropped, rest_kept, swapped_length}
 use Rattle.gl_indexset.proofs.sweep.sweep.Goals as goal
+use Rattle.gl_indexset.proofs.sweep.sweep.Goals.{then-is_held, else-is_held}
+
+pub loop-n-init : goal.loop-n-init
+loop-n-init c = record {
+  order = omega arith;
+  long = refl;
+  front = front_first (is_held c.args.sets.now) c.args.rows.now.rows c.first_from-first.result c.first_from-first.ensures.within
+      (λ k d lt. c.requires.before k d (omega (arith, lt, c.first_from-first.ensures.within)) (c.first_from-first.ensures.before k d lt));
+  rest = refl;
+  spare = omega arith;
+}
 
 pub loop-n-preserved : goal.loop-n-preserved
 loop-n-preserved c =
+    let p = is_held c.args.sets.now in
+    let init = c.args.rows.now.rows in
     let rows = c.loop-n.rows.rows in
+    let kept = c.loop-n.kept in
     let n = c.loop-n.n in
-    let row = c.get-row.result.now in
-    let lt : n < length rows = omega (arith, c.len.ensures) in
-    let is : is_held c.args.sets.now (get_or rows n row) ≡ false
-    = ap (λ (r : Row). is_held c.args.sets.now r) (get_or_from_slice_get rows n row row c.get-row.ensures) ∙ sym c.is_held.ensures ∙ c.if-is_held.false in
-    record {
-      within = rw c.remove.ensures.rows (omega (arith, length-remove rows n lt, lt));
-      same = rw c.remove.ensures.rows (filter-remove (is_held c.args.sets.now) rows n row lt is ∙ c.loop-n.invariant.same);
-      rising = rw c.remove.ensures.rows (all_pairs_remove (λ (a b : Row). a.position < b.position) rows n lt c.loop-n.invariant.rising);
-      held = λ k d low. rw (c.remove.ensures.rows, get_or-remove_below rows n d k low lt) (c.loop-n.invariant.held k d low);
-      behind = rw c.remove.ensures.rows (All-remove (λ (r : Row). c.args.to ≤ r.position → is_held c.args.sets.now r ≡ true) rows n c.loop-n.invariant.behind);
-      spare = omega (arith, c.remove.ensures.spare, c.loop-n.invariant.spare);
-    }
+    let row = c.get.result.now in
+    let inv = c.loop-n.invariant in
+    let lt : n < length rows = omega (arith, c.loop-n-test.true, c.first_from-last.ensures.within, inv.long) in
+    elim c.if-is_held.branch [
+      | then-is_held w ↦
+          let now : c.if-is_held.rows.rows ≡ swap rows kept n = ap (λ (v : Shelved). v.rows) (w.rows-is ∙ w.swap.ensures) in
+          record {
+            order = omega (arith, w.kept-is, inv.order);
+            long = ap (λ (l : List Row). length l) now ∙ swapped_length rows kept n ∙ inv.long;
+            front = ap (λ m. take m c.if-is_held.rows.rows) w.kept-is ∙ ap (λ (l : List Row). take (kept + 1) l) now
+                ∙ front_kept p init rows kept n row inv.order lt inv.long inv.front inv.rest c.get.ensures (sym c.is_held.ensures ∙ w.if-is_held.true);
+            rest = ap (λ (l : List Row). drop (n + 1) l) now ∙ rest_kept p init rows kept n row inv.order lt inv.long inv.front inv.rest c.get.ensures;
+            spare = omega (arith, inv.spare, ap (λ (v : Shelved). v.spare) (w.rows-is ∙ w.swap.ensures));
+          }
+      | else-is_held w ↦
+          let now : c.if-is_held.rows.rows ≡ rows = ap (λ (v : Shelved). v.rows) w.rows-is in
+          record {
+            order = omega (arith, w.kept-is, inv.order);
+            long = ap (λ (l : List Row). length l) now ∙ inv.long;
+            front = ap (λ m. take m c.if-is_held.rows.rows) w.kept-is ∙ ap (λ (l : List Row). take kept l) now
+                ∙ front_dropped p init rows kept n row inv.order lt inv.long inv.front inv.rest c.get.ensures (sym c.is_held.ensures ∙ w.if-is_held.false);
+            rest = ap (λ (l : List Row). drop (n + 1) l) now ∙ rest_dropped p init rows kept n row inv.order lt inv.long inv.front inv.rest c.get.ensures;
+            spare = omega (arith, inv.spare, ap (λ (v : Shelved). v.spare) w.rows-is);
+          }
+    ]
 
-pub returns-after-loop-n-clause-rows : goal.returns-after-loop-n-clause-rows
-returns-after-loop-n-clause-rows c =
-    sym (filter_all (is_held c.args.sets.now) c.loop-n.rows.rows
-    (all_held c.args.sets.now c.loop-n.rows.rows c.loop-n.n c.args.to c.loop-n.invariant.held c.loop-n.invariant.behind
-    (λ k d from within. absurd (omega (arith, c.len.ensures)))))
-    ∙ c.loop-n.invariant.same
+pub remove_range-requires-clause-order : goal.remove_range-requires-clause-order
+remove_range-requires-clause-order c =
+    let turn : c.first_from-first.result ≤ c.first_from-last.result = in_turn c.args.rows.now.rows c.first_from-first.result c.first_from-last.result c.args.from c.args.to c.first_from-first.ensures.within c.requires.order
+    c.first_from-first.ensures.before c.first_from-last.ensures.behind in
+    omega (arith, turn, c.loop-n-test.false, c.loop-n.invariant.order)
 
-pub returns-then-row-to-clause-rows : goal.returns-then-row-to-clause-rows
-returns-then-row-to-clause-rows c =
-    sym (filter_all (is_held c.args.sets.now) c.loop-n.rows.rows
-    (all_held c.args.sets.now c.loop-n.rows.rows c.loop-n.n c.args.to c.loop-n.invariant.held c.loop-n.invariant.behind
-    (above_here c.loop-n.rows.rows c.loop-n.n c.get-row.result.now c.loop-n.invariant.rising c.get-row.ensures (omega (arith, c.len.ensures)) c.args.to c.if-row-to.true)))
-    ∙ c.loop-n.invariant.same
+pub returns-clause-rows : goal.returns-clause-rows
+returns-clause-rows c =
+    let turn : c.first_from-first.result ≤ c.first_from-last.result = in_turn c.args.rows.now.rows c.first_from-first.result c.first_from-last.result c.args.from c.args.to c.first_from-first.ensures.within c.requires.order
+    c.first_from-first.ensures.before c.first_from-last.ensures.behind in
+    let end : c.loop-n.n ≡ c.first_from-last.result = omega (arith, turn, c.loop-n-test.false) in
+    c.remove_range.ensures.rows
+    ∙ ap (λ n. remove_range c.loop-n.rows.rows c.loop-n.kept n) (sym end)
+    ∙ compacted (is_held c.args.sets.now) c.args.rows.now.rows c.loop-n.rows.rows c.loop-n.kept c.loop-n.n c.loop-n.invariant.front c.loop-n.invariant.rest
+    (λ k d le lt. c.requires.behind k d lt (c.first_from-last.ensures.behind k d (omega (arith, le, end)) lt))
+
+pub returns-clause-rising : goal.returns-clause-rising
+returns-clause-rising c =
+    let turn : c.first_from-first.result ≤ c.first_from-last.result = in_turn c.args.rows.now.rows c.first_from-first.result c.first_from-last.result c.args.from c.args.to c.first_from-first.ensures.within c.requires.order
+    c.first_from-first.ensures.before c.first_from-last.ensures.behind in
+    let end : c.loop-n.n ≡ c.first_from-last.result = omega (arith, turn, c.loop-n-test.false) in
+    let now = c.remove_range.ensures.rows
+    ∙ ap (λ n. remove_range c.loop-n.rows.rows c.loop-n.kept n) (sym end)
+    ∙ compacted (is_held c.args.sets.now) c.args.rows.now.rows c.loop-n.rows.rows c.loop-n.kept c.loop-n.n c.loop-n.invariant.front c.loop-n.invariant.rest
+    (λ k d le lt. c.requires.behind k d lt (c.first_from-last.ensures.behind k d (omega (arith, le, end)) lt)) in
+    subst (λ (l : List Row). AllPairs (λ (a b : Row). a.position < b.position) l) (sym now)
+    (AllPairs-filter (λ (a b : Row). a.position < b.position) (is_held c.args.sets.now) c.args.rows.now.rows c.requires.rising)

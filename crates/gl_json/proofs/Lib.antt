@@ -1,0 +1,9 @@
+pub mod Taking
+pub mod CharRead
+pub mod NumberRead
+pub mod ElementRead
+pub mod ValueRead
+pub mod Whole
+pub mod Encoding
+pub mod SaidRead
+pub mod Growing

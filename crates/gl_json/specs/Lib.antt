@@ -1,0 +1,8 @@
+pub mod Chars
+pub mod Numbers
+pub mod Grammar
+pub mod Reading
+pub mod Views
+pub mod Places
+pub mod Escapes
+pub mod Flattening

@@ -1,0 +1,220 @@
+// The fields of an object and of those that nest in it.
+ghost use Rattle.std.specs.Prelude.{◌≡◌, ◌<◌, ◌≤◌, ◌^◌, ◌∷◌, [], map, IfOk, OnOk, IfSome, false, true};
+ghost use Rattle.std.specs.String.{string_bytes};
+ghost use Rattle.gl_fields.specs.declared.field.Value.TheVariants as held;
+ghost use Rattle.gl_json.specs.Numbers.{is_digit};
+ghost use Rattle.gl_json.specs.Grammar.{IsObject, text, object};
+ghost use Rattle.gl_json.specs.Places.{object_of};
+ghost use Rattle.gl_json.specs.Flattening.{magnitude_from, signed_number, whole_of, number_field, IsKept, IsUnder, Appends, Grows, Flattens};
+ghost use Rattle.gl_json.specs.Views.{value_view, pair_view, field_view};
+
+use crate::bytes;
+use crate::read::{LEVELS, members_at, read_object};
+use crate::refusal::{Halt, JsonRefusal};
+use crate::spelling::unescape;
+use crate::value::{Member, Raw};
+use gl_base::Text;
+use gl_fields::Value;
+use std::alloc::Global;
+use std::str;
+
+// The greatest number of 64 bits with a sign, and one more.
+const MAX_MAGNITUDE: u128 = 0x8000_0000_0000_0000;
+
+fn is_digit(byte: u8) -> bool
+    ensures { result ≡ is_digit byte }
+{
+    byte.is_ascii_digit()
+}
+
+#[tactic(auto, unfolding(crate::specs::Flattening::magnitude_from))]
+fn magnitude(digits: &[u8]) -> Option<u64>
+    ensures value { result ≡ magnitude_from 0 digits.now }
+    ensures small { IfSome result (λ n. n ≤ 2 ^ 63) }
+{
+    let mut n = 0u64;
+    let mut rest = digits;
+    while let [d, behind @ ..] = rest {
+        if !is_digit(*d) {
+            return None;
+        }
+        let next = u128::from(n) * 10 + u128::from(*d - b'0');
+        if next > MAX_MAGNITUDE {
+            return None;
+        }
+        n = next as u64;
+        rest = behind;
+    }
+    Some(n)
+}
+
+fn signed_number(negative: bool, magnitude: Option<u64>) -> Option<i64>
+    requires { IfSome magnitude (λ n. n ≤ 2 ^ 63) }
+    ensures { result ≡ signed_number negative magnitude }
+{
+    let n = magnitude?;
+    if negative {
+        let number = -i128::from(n);
+        return Some(number as i64);
+    }
+    if n < 0x8000_0000_0000_0000 {
+        return Some(n as i64);
+    }
+    None
+}
+
+/// The whole number that a literal is.
+#[tactic(auto, unfolding(crate::specs::Flattening::whole_of))]
+pub fn whole_of(literal: &[u8]) -> Option<i64>
+    ensures { result ≡ whole_of literal.now }
+{
+    match literal {
+        [] => None,
+        [byte, digits @ ..] => {
+            if *byte == b'-' {
+                return signed_number(true, magnitude(digits));
+            }
+            signed_number(false, magnitude(literal))
+        }
+    }
+}
+
+// A text as it stands.
+fn plain_value(alloc: Global, bytes: &[u8]) -> Result<Value, Halt>
+    ensures { IfOk result (λ f. f ≡ held.Text bytes.now) }
+{
+    match str::from_utf8(bytes) {
+        Ok(text) => Ok(Value::Text(Text::from_str(alloc, text)?)),
+        Err(_) => Err(Halt::OutOfMemory),
+    }
+}
+
+fn text_value(alloc: Global, raw: &[u8]) -> Result<Value, Halt>
+    ensures { IfOk result (λ f. IsKept (text raw.now) f) }
+{
+    match unescape(alloc, raw) {
+        Ok(text) => Ok(Value::Text(Text::from_string(text))),
+        Err(_) => Err(Halt::OutOfMemory),
+    }
+}
+
+fn number_value(alloc: Global, literal: &[u8]) -> Result<Value, Halt>
+    ensures { IfOk result (λ f. f ≡ number_field literal.now (whole_of literal.now)) }
+{
+    match whole_of(literal) {
+        Some(number) => Ok(Value::Whole(number)),
+        None => plain_value(alloc, literal),
+    }
+}
+
+fn name_under(alloc: Global, prefix: &str, raw: &[u8]) -> Result<String, Halt>
+    ensures { IfOk result (λ s. IsUnder prefix.now raw.now (string_bytes s)) }
+{
+    match unescape(alloc, raw) {
+        Ok(name) => {
+            let mut whole = String::from_str(alloc, prefix)?;
+            whole.push_str(name.as_str())?;
+            Ok(whole)
+        }
+        Err(_) => Err(Halt::OutOfMemory),
+    }
+}
+
+fn keep(
+    alloc: Global,
+    prefix: &str,
+    raw: &[u8],
+    value: Value,
+    fields: &mut Vec<(String, Value)>,
+) -> Result<(), Halt>
+    ensures { OnOk result (Appends prefix.now raw.now value (map field_view fields.old.items) (map field_view fields.new.items)) }
+{
+    let name = name_under(alloc, prefix, raw)?;
+    fields.push((name, value))?;
+    Ok(())
+}
+
+fn nested_members(alloc: Global, text: &[u8], levels: u32) -> Result<Vec<Member<'_>>, Halt>
+    ensures { IfOk result (λ v. IsObject levels text.now (map pair_view v.items)) }
+{
+    let (_, rest) = bytes::sign_at(text, b'{')?;
+    let (members, rest) = members_at(alloc, rest, levels)?;
+    if !rest.is_empty() {
+        return Err(Halt::OutOfMemory);
+    }
+    Ok(members)
+}
+
+#[cycle(fields)]
+fn push_members(
+    alloc: Global,
+    members: &[Member],
+    prefix: &str,
+    levels: u32,
+    fields: &mut Vec<(String, Value)>,
+) -> Result<(), Halt>
+    ensures { OnOk result (Grows levels prefix.now (map pair_view members.now) (map field_view fields.old.items) (map field_view fields.new.items)) }
+{
+    for member in members {
+        push_member(alloc, member.name, &member.value, prefix, levels, fields)?;
+    }
+    Ok(())
+}
+
+#[cycle(fields)]
+fn push_member(
+    alloc: Global,
+    raw: &[u8],
+    value: &Raw,
+    prefix: &str,
+    levels: u32,
+    fields: &mut Vec<(String, Value)>,
+) -> Result<(), Halt>
+    ensures { OnOk result (Grows levels prefix.now ((record { name = raw.now; value = value_view value.now }) ∷ []) (map field_view fields.old.items) (map field_view fields.new.items)) }
+{
+    match *value {
+        Raw::Null => Ok(()),
+        Raw::Object(text) => push_object(alloc, raw, text, prefix, levels, fields),
+        Raw::Text(inside) => keep(alloc, prefix, raw, text_value(alloc, inside)?, fields),
+        Raw::Number(literal) => keep(alloc, prefix, raw, number_value(alloc, literal)?, fields),
+        Raw::True => keep(alloc, prefix, raw, plain_value(alloc, b"true")?, fields),
+        Raw::False => keep(alloc, prefix, raw, plain_value(alloc, b"false")?, fields),
+        Raw::Array(text) => keep(alloc, prefix, raw, plain_value(alloc, text)?, fields),
+    }
+}
+
+#[cycle(fields)]
+fn push_object(
+    alloc: Global,
+    raw: &[u8],
+    text: &[u8],
+    prefix: &str,
+    levels: u32,
+    fields: &mut Vec<(String, Value)>,
+) -> Result<(), Halt>
+    ensures { OnOk result (Grows levels prefix.now ((record { name = raw.now; value = object text.now }) ∷ []) (map field_view fields.old.items) (map field_view fields.new.items)) }
+{
+    if levels == 0 {
+        return Err(Halt::OutOfMemory);
+    }
+    let mut name = name_under(alloc, prefix, raw)?;
+    name.push_str("_")?;
+    let members = nested_members(alloc, text, levels - 1)?;
+    push_members(alloc, members.as_slice(), name.as_str(), levels - 1, fields)
+}
+
+/// The fields of the object that a text is, in the order of the text: a text says what it says, a
+/// number without fraction and exponent is whole where it has 64 bits, another number and an array
+/// stand as their text, true and false as those words, and null gives nothing. A nested object gives
+/// its own fields, under its name and `_` before theirs.
+pub fn flatten(alloc: Global, text: &[u8]) -> Result<Vec<(String, Value)>, JsonRefusal>
+    // They are the fields of the members that the text has, and a refusal is that of the text.
+    ensures { Flattens (λ v. map field_view v.items) result (object_of text.now) }
+{
+    let members = read_object(alloc, text)?;
+    let mut fields = Vec::new(alloc);
+    match push_members(alloc, members.as_slice(), "", LEVELS, &mut fields) {
+        Ok(()) => Ok(fields),
+        Err(_) => Err(JsonRefusal::OutOfMemory),
+    }
+}

@@ -1,0 +1,112 @@
+// Numbers, each part of which is read to its end.
+ghost use Rattle.std.specs.Prelude.{◌≡◌};
+ghost use Rattle.gl_json.specs.Numbers.{is_digit, is_sign, is_e};
+ghost use Rattle.gl_json.specs.Reading.{Gives, digits_at, int_at, minus_at, frac_at, signed_at, exp_at, number_at};
+
+use crate::bytes::{self, Stop};
+
+fn is_sign(byte: u8) -> bool
+    ensures { result ≡ is_sign byte }
+{
+    byte == b'+' || byte == b'-'
+}
+
+fn is_e(byte: u8) -> bool
+    ensures { result ≡ is_e byte }
+{
+    byte == b'e' || byte == b'E'
+}
+
+/// One digit or more.
+#[tactic(auto, unfolding(crate::specs::Reading::digits_at))]
+fn digits_at(bytes: &[u8]) -> Result<&[u8], Stop>
+    ensures { Gives (λ x. x.now) result (digits_at bytes.now) }
+{
+    let (_, rest) = bytes::digit_at(bytes)?;
+    Ok(bytes::past_digits(rest))
+}
+
+#[tactic(auto, unfolding(crate::specs::Reading::int_at))]
+fn int_at(bytes: &[u8]) -> Result<&[u8], Stop>
+    ensures { Gives (λ x. x.now) result (int_at bytes.now) }
+{
+    match bytes {
+        [] => Err(Stop::At { left: 0 }),
+        [byte, rest @ ..] => {
+            if *byte == b'0' {
+                return Ok(rest);
+            }
+            digits_at(bytes)
+        }
+    }
+}
+
+#[tactic(auto, unfolding(crate::specs::Reading::minus_at))]
+fn minus_at(bytes: &[u8]) -> Result<&[u8], Stop>
+    ensures { Gives (λ x. x.now) result (minus_at bytes.now) }
+{
+    match bytes {
+        [] => Err(Stop::At { left: 0 }),
+        [byte, rest @ ..] => {
+            if *byte == b'-' {
+                return int_at(rest);
+            }
+            int_at(bytes)
+        }
+    }
+}
+
+#[tactic(auto, unfolding(crate::specs::Reading::frac_at))]
+fn frac_at(bytes: &[u8]) -> Result<&[u8], Stop>
+    ensures { Gives (λ x. x.now) result (frac_at bytes.now) }
+{
+    match bytes {
+        [] => Ok(bytes),
+        [byte, rest @ ..] => {
+            if *byte == b'.' {
+                return digits_at(rest);
+            }
+            Ok(bytes)
+        }
+    }
+}
+
+#[tactic(auto, unfolding(crate::specs::Reading::signed_at))]
+fn signed_at(bytes: &[u8]) -> Result<&[u8], Stop>
+    ensures { Gives (λ x. x.now) result (signed_at bytes.now) }
+{
+    match bytes {
+        [] => Err(Stop::At { left: 0 }),
+        [byte, rest @ ..] => {
+            if is_sign(*byte) {
+                return digits_at(rest);
+            }
+            digits_at(bytes)
+        }
+    }
+}
+
+#[tactic(auto, unfolding(crate::specs::Reading::exp_at))]
+fn exp_at(bytes: &[u8]) -> Result<&[u8], Stop>
+    ensures { Gives (λ x. x.now) result (exp_at bytes.now) }
+{
+    match bytes {
+        [] => Ok(bytes),
+        [byte, rest @ ..] => {
+            if is_e(*byte) {
+                return signed_at(rest);
+            }
+            Ok(bytes)
+        }
+    }
+}
+
+/// What stands behind a number.
+#[tactic(auto, unfolding(crate::specs::Reading::number_at))]
+pub fn number_at(bytes: &[u8]) -> Result<&[u8], Stop>
+    ensures { Gives (λ x. x.now) result (number_at bytes.now) }
+{
+    let int = minus_at(bytes)?;
+    let frac = frac_at(int)?;
+    exp_at(frac)
+}

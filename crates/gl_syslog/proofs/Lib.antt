@@ -1,0 +1,12 @@
+pub mod Bools
+pub mod Counts
+pub mod Framings
+pub mod Stepping
+pub mod Values
+pub mod Many
+pub mod Distinct
+pub mod Peel
+pub mod Spelled
+pub mod Elements
+pub mod Messages
+pub mod Unique

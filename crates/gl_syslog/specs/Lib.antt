@@ -1,0 +1,9 @@
+pub mod Digits
+pub mod LineFraming
+pub mod Reader
+pub mod Fronts
+pub mod Inside
+pub mod Sections
+pub mod Data
+pub mod Reading
+pub mod Rfc5424

@@ -1,0 +1,28 @@
+//! Syslog: the frames of a connection, and messages of RFC 5424.
+//!
+//! `LineFrames` cuts what a connection sends into frames, lines and, where asked, counted ones (RFC 6587):
+//! however the bytes are cut into pieces, the frames so far are those of the bytes so far (`specs/LineFraming`).
+//!
+//! `read_5424` reads exactly the messages of RFC 5424 with version 1, and gives their parts. The grammar is a relation
+//! between a whole text and its parts (`specs/Rfc5424`, over `specs/Sections` and `specs/Data`); how it is read from left
+//! to right is told in `specs/Reading`. It takes time as the length of the text, times the logarithm of the number of its elements.
+#![tactic(auto)]
+
+mod data;
+mod fed;
+mod frames;
+mod front;
+mod parts;
+mod read;
+#[cfg(test)]
+mod read_tests;
+mod sections;
+mod stamp;
+#[cfg(test)]
+mod tests;
+mod unread;
+
+pub use fed::Fed;
+pub use frames::{LineFrames, law_one_framing};
+pub use parts::{Element, Parts, Stamp};
+pub use read::read_5424;
