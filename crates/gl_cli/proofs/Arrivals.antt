@@ -1,7 +1,7 @@
 -- The journal after a script is what stood at opening and the script's arrivals.
-use Rattle.std.specs.Prelude.{◌≡◌, ℕ, ◌+◌, false, true, Bool, cond, List, [], ◌∷◌, ◌++◌, length, Option, Some, None, max, filter, map}
-use Rattle.std.specs.List.{enumerate_from, flat_map}
-use Rattle.std.proofs.Common.{refl, ◌∙◌, ap, sym, subst, append_assoc, append-nil, arith}
+use Rattle.std.specs.Prelude.{◌≡◌, ℕ, ◌+◌, false, List, [], ◌∷◌, ◌++◌, Option, Some, None, max, filter, map}
+use Rattle.std.specs.List.{enumerate_from}
+use Rattle.std.proofs.Common.{refl, ◌∙◌, ap, sym, append_assoc, append-nil, arith}
 use Rattle.gl_fields.specs.declared.entry.Entry.{Entry}
 use Rattle.gl_fields.specs.declared.entry.Outcome.{Outcome}
 use Rattle.gl_node.specs.declared.answer.Arrival.{Arrival}
@@ -14,7 +14,7 @@ use Rattle.gl_cli.specs.declared.line.Line.{Line}
 use Rattle.gl_cli.specs.declared.line.Line.TheVariants.{Blank, At, Udp, Claim, Finish, Listing}
 use Rattle.gl_cli.specs.Answers.{outcome_words}
 use Rattle.gl_cli.specs.Arrivals.{with_journal, accepted, line_arrivals, arrivals, script_arrivals, brings_in}
-use Rattle.gl_cli.specs.Runs.{Step, answered, listed, turn_of, turns_of, turn_events, all_events, script_turns, last_state}
+use Rattle.gl_cli.specs.Runs.{answered, turn_of, turns_of, turn_events, all_events, script_turns, last_state}
 use Rattle.gl_cli.specs.Script.{lines_run, moment_after, moment_in, script_lines}
 use Rattle.gl_cli.proofs.Desks.{finished_claims}
 use Rattle.gl_cli.proofs.Sessions.{moment_after-more, state_after-more}

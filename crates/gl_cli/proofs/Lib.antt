@@ -11,6 +11,8 @@ pub mod Sessions
 pub mod Exits
 pub mod Causes
 pub mod Openings
+pub mod Starts
 pub mod Rows
 pub mod Big
+pub mod Moments
 mod Arrivals

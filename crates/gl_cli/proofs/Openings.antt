@@ -1,5 +1,5 @@
 -- A store that isn't opened, and a store that is.
-use Rattle.std.specs.Prelude.{◌≡◌, ◌≢◌, ◌⊎◌, ℕ, Bool, true, false, ◌&&◌, List, [], ◌∷◌, Option, Some, None, IfSome, Err, IsErrOf, ⊤, if◌then◌else◌, codes}
+use Rattle.std.specs.Prelude.{◌≡◌, ◌≢◌, ◌⊎◌, ℕ, Bool, true, false, List, [], ◌∷◌, Option, Some, None, IfSome, Err, IsErrOf, ⊤, if◌then◌else◌, codes}
 use Rattle.std.specs.Str.{bytes_eq}
 use Rattle.std.specs.Io.KnownBytes.{Keeps}
 use Rattle.std.proofs.Common.{refl, ◌∙◌, ap, sym, subst, arith, inl, inr}
@@ -14,10 +14,10 @@ use Rattle.gl_cli.specs.declared.status.Command.{Command}
 use Rattle.gl_cli.specs.declared.status.Command.TheVariants as asked
 use Rattle.gl_cli.specs.declared.status.Status.{Status}
 use Rattle.gl_cli.specs.declared.status.Status.TheVariants.{Done, Usage, DiskFault, Damaged, OutOfMemory, PatternFault}
-use Rattle.gl_cli.specs.Ends.{Counts, HasCauses, MayEnd, SaysDamaged, SessionEnd}
+use Rattle.gl_cli.specs.Ends.{Counts, HasCauses, IsCheckStatus, MayEnd, SaysDamaged, SessionEnd}
 use Rattle.gl_cli.specs.Runs.{output}
 use Rattle.gl_cli.specs.Statuses.{IsRunStatus, open_status_of}
-use Rattle.gl_cli.specs.Words.{command_for, default_options, is_store}
+use Rattle.gl_cli.specs.Words.{command_for, command_on, default_options, is_store}
 use Rattle.gl_cli.proofs.Sinks.{Appends-nothing}
 use Rattle.gl_cli.proofs.Exits.{IsOther, Wrote-other}
 use Rattle.gl_cli.proofs.Causes.{causes_none, same_error, IsNoFault}
@@ -60,6 +60,11 @@ pub open_statuses : (fault : OpenFault) (status : Status) → status ≡ open_st
 open_statuses (unopened.Damaged log area at) status e = not_these status (subst IsSessionStatus (sym e) tt)
 open_statuses unopened.DiskFault status e = not_these status (subst IsSessionStatus (sym e) tt)
 open_statuses unopened.OutOfMemory status e = not_these status (subst IsSessionStatus (sym e) tt)
+
+pub open_checks : (fault : OpenFault) (status : Status) → status ≡ open_status_of fault → IsCheckStatus status
+open_checks (unopened.Damaged log area at) status e = subst IsCheckStatus (sym e) tt
+open_checks unopened.DiskFault status e = subst IsCheckStatus (sym e) tt
+open_checks unopened.OutOfMemory status e = subst IsCheckStatus (sym e) tt
 
 pub run_statuses : (status : Status) → IsRunStatus status → (status ≢ Usage) × (status ≢ PatternFault)
 run_statuses status runs = ((λ e. subst IsRunStatus e runs), (λ e. subst IsRunStatus e runs))
@@ -123,10 +128,11 @@ causes_open {T} unopened.OutOfMemory status before now e cause source sink shop 
 
 abbrev LawfulOptions : Command → Type 0
 LawfulOptions (asked.Session store options) = AreOptions options
+LawfulOptions (asked.Check store options) = AreOptions options
 LawfulOptions asked.Usage = ⊤
 
-if_session : (b : Bool) (store : List ℕ) → LawfulOptions (if b then asked.Session store default_options else asked.Usage)
-if_session true store = record {
+lawful_default : AreOptions default_options
+lawful_default = record {
   segment_least = omega arith;
   segment_most = omega arith;
   journal_least = omega arith;
@@ -134,39 +140,61 @@ if_session true store = record {
   index_least = omega arith;
   index_most = omega arith;
 }
-if_session false store = tt
+
+on_word : (session check : Bool) (store : List ℕ)
+    → LawfulOptions (if session then asked.Session store default_options else (if check then asked.Check store default_options else asked.Usage))
+on_word true check store = lawful_default
+on_word false true store = lawful_default
+on_word false false store = tt
+
+on_store : (b : Bool) (word store : List ℕ) → LawfulOptions (if b then command_on word store else asked.Usage)
+on_store true word store = on_word (bytes_eq word (codes "session")) (bytes_eq word (codes "check")) store
+on_store false word store = tt
 
 lawful_options : (words : List (List ℕ)) → LawfulOptions (command_for words)
 lawful_options [] = tt
 lawful_options (word ∷ []) = tt
-lawful_options (word ∷ store ∷ []) = if_session (bytes_eq word (codes "session") && is_store store) store
+lawful_options (word ∷ store ∷ []) = on_store (is_store store) word store
 lawful_options (word ∷ store ∷ next ∷ words) = tt
 
 pub session_options : (words : List (List ℕ)) (store : List ℕ) (options : Options) → asked.Session store options ≡ command_for words → AreOptions options
 session_options words store options e = subst LawfulOptions (sym e) (lawful_options words)
 
-abbrev options_in : Options → Command → Options
-options_in other (asked.Session store options) = options
-options_in other asked.Usage = other
+pub check_options : (words : List (List ℕ)) (store : List ℕ) (options : Options) → asked.Check store options ≡ command_for words → AreOptions options
+check_options words store options e = subst LawfulOptions (sym e) (lawful_options words)
 
-pub same_options : (store other : List ℕ) (options options' : Options) (command : Command) → asked.Session store options ≡ command → command ≡ asked.Session other options' → options ≡ options'
-same_options store other options options' command e f = ap (options_in options) (e ∙ f)
-
-IsSession : Command → Type 0
+-- which command it is
+abbrev pub IsSession : Command → Type 0
 IsSession (asked.Session store options) = ⊤
-IsSession asked.Usage = ⊥
+IsSession other = ⊥
+
+abbrev pub IsCheck : Command → Type 0
+IsCheck (asked.Check store options) = ⊤
+IsCheck other = ⊥
 
 pub no_usage : (store : List ℕ) (options : Options) (command : Command) → asked.Session store options ≡ command → command ≡ asked.Usage → ⊥
-unfolding IsSession
 no_usage store options command e f = subst IsSession (e ∙ f) tt
+
+pub no_check : (store store' : List ℕ) (options options' : Options) (command : Command) → asked.Session store options ≡ command → command ≡ asked.Check store' options' → ⊥
+no_check store store' options options' command e f = subst IsSession (e ∙ f) tt
+
+pub check_no_usage : (store : List ℕ) (options : Options) (command : Command) → asked.Check store options ≡ command → command ≡ asked.Usage → ⊥
+check_no_usage store options command e f = subst IsCheck (e ∙ f) tt
+
+pub check_no_session : (store store' : List ℕ) (options options' : Options) (command : Command) → asked.Check store options ≡ command → command ≡ asked.Session store' options' → ⊥
+check_no_session store store' options options' command e f = subst IsCheck (e ∙ f) tt
 
 -- a command ends with a status that may come
 pub may_end : (store : List ℕ) (options : Options) (command : Command) (status : Status) → asked.Session store options ≡ command → (status ≢ Usage) × (status ≢ PatternFault) → MayEnd command status
 may_end store options command status e these = subst (λ (x : Command). MayEnd x status) e these
 
+pub may_end_check : (store : List ℕ) (options : Options) (command : Command) (status : Status) → asked.Check store options ≡ command → IsCheckStatus status → MayEnd command status
+may_end_check store options command status e is = subst (λ (x : Command). MayEnd x status) e is
+
 pub may_end_memory : (command : Command) → (command ≡ asked.Usage → ⊥) → MayEnd command OutOfMemory
 may_end_memory asked.Usage ne = absurd (ne refl)
 may_end_memory (asked.Session store options) ne = not_these OutOfMemory tt
+may_end_memory (asked.Check store options) ne = tt
 
 -- the shop isn't touched
 pub with_shop : (status : Status) (source source' sink sink' disk disk' shop : ℕ)

@@ -8,7 +8,7 @@ use Rattle.std.specs.Str.{is_utf8, chars}
 use lib.Utf8.{encode}
 use Rattle.percent_encoding.specs.Percent.{percent_decode, percent_encode_byte}
 use Rattle.gl_node.specs.State.{Base, opened}
-use Rattle.gl_node.specs.Standing.{empty_base}
+use Rattle.gl_node.specs.declared.node.Options.{Options}
 use Rattle.gl_cli.specs.declared.line.Line.{Line}
 use Rattle.gl_cli.specs.declared.line.Line.TheVariants.{Udp, Claim, Finish}
 use Rattle.gl_cli.specs.Words.{default_options}
@@ -18,6 +18,19 @@ use Rattle.gl_cli.specs.Script.{bad_line, script_lines}
 -- a text of these lines
 abbrev pub lines_text : List (List ℕ) → List ℕ
 lines_text lines = flat_map (λ line. line ++ 10 ∷ []) lines
+
+-- what stands at the opening of an empty store: two logs with a begin batch of 25 bytes
+abbrev pub empty_base : Options → Base
+empty_base options = record {
+  journal = [];
+  found = [];
+  journal_bytes = 25;
+  index_bytes = 25;
+  journal_limit = options.journal_limit;
+  index_limit = options.index_limit;
+  journal_segment = options.segment;
+  index_segment = options.segment;
+}
 
 -- an empty store with the default limits
 abbrev pub empty : Base

@@ -7,6 +7,9 @@ use Rattle.std.proofs.lemmas.Grind.{flat_map-append}
 use Rattle.std.proofs.lemmas.List.Sums.{fold-append}
 use Rattle.std.proofs.lemmas.List.{map-append}
 use Rattle.std.specs.Io.KnownBytes.{Appends}
+use Rattle.gl_outside.specs.Disk.{Image, DiskState, LeavesOnly, Tells}
+use Rattle.gl_node.specs.Moments.{LeftBy}
+use Rattle.gl_node.specs.Node.{NodeOn}
 use Rattle.gl_node.specs.State.{Base, State, Event, opened, state_after, happened}
 use Rattle.gl_cli.specs.declared.desk.Desk.{Desk}
 use Rattle.gl_cli.specs.declared.line.Line.{Line}
@@ -16,7 +19,7 @@ use Rattle.gl_cli.specs.Desk.{DeskKeeps}
 use Rattle.gl_cli.specs.Script.{lines_within, lines_run, bad_line, moment_after, moment_in, line_of, read_then, number_behind}
 use Rattle.gl_cli.specs.Runs.{Turn, turns_of, turn_of, all_events, all_text, turn_events, turn_text}
 use Rattle.gl_cli.specs.Reading.{GivesKnown}
-use Rattle.gl_cli.specs.Sessions.{Running, Answered, CutShort, DoesTurn, CutsTurn, turn_at, payload_turn}
+use Rattle.gl_cli.specs.Sessions.{Running, Answered, CutShort, CutAt, DoesTurn, CutsTurn, DuringTurn, CutLeaves, turn_at, payload_turn}
 use Rattle.gl_cli.proofs.Sinks.{Appends-more}
 
 -- what a line gives depends on the lines before it by the moment alone
@@ -94,3 +97,14 @@ running_more base script before mid now s (Some rest) budget left number moment 
       long = ((λ p. g.1.0 (r.long.0 p)), (λ p. r.long.1 (g.1.1 p)));
       gained = subst (Appends before now) (sym (all_text-more r.turns turn)) (Appends-more before mid now (all_text r.turns) (turn_text turn) r.gained gained);
     }
+
+-- the same for what a crash leaves of a line
+pub during_line : (old : Desk) (moment : ℕ) (line : Line) (d0 d1 : DiskState) → DuringTurn (turn_at moment line) old d0 d1 → Tells d0 → NodeOn old.node d0
+    → (s : State) (past : List Line) → DeskKeeps old s → moment ≡ moment_after past → LeavesOnly d0 d1 (LeftBy s (turn_events (turn_of past s false line)) d0)
+during_line old moment line d0 d1 during tells on s past kept e =
+    subst (λ (t : Turn). LeavesOnly d0 d1 (LeftBy s (turn_events t) d0)) (turn_same past s moment line e) (during tells on s kept)
+
+pub cut_line : (old : Desk) (before now : Option (List ℕ)) (moment : ℕ) (line : Line) (d0 d1 : DiskState) → CutLeaves (turn_at moment line) old before now d0 d1 → Tells d0 → NodeOn old.node d0
+    → (s : State) (past : List Line) → DeskKeeps old s → moment ≡ moment_after past → (c : Image) → d1.may_leave c → CutAt s (turn_of past s false line) before now c
+cut_line old before now moment line d0 d1 cut tells on s past kept e c left =
+    subst (λ (t : Turn). CutAt s t before now c) (turn_same past s moment line e) (cut tells on s kept c left)

@@ -1,9 +1,11 @@
 -- What a crash leaves of a session that has ended.
-use Rattle.std.specs.Prelude.{◌≡◌, ◌≢◌, ℕ, ◌≤◌, List, [], ◌∷◌, ◌++◌, length, take, Option}
+use Rattle.std.specs.Prelude.{◌≡◌, ◌≢◌, ◌⊎◌, ℕ, ◌≤◌, List, [], ◌∷◌, ◌++◌, length, take, Option, IfSome}
 use Rattle.std.specs.Io.KnownBytes.{Appends}
-use Rattle.gl_outside.specs.Disk.{Image}
+use Rattle.gl_outside.specs.Disk.{DiskState, Image, IsUnchanged}
 use Rattle.gl_node.specs.State.{Base, Event, opened, state_after}
 use Rattle.gl_node.specs.Standing.{StandsFor}
+use Rattle.gl_cli.specs.declared.status.Command.{Command}
+use Rattle.gl_cli.specs.declared.status.Command.TheVariants as asked
 use Rattle.gl_cli.specs.Writing.{BeginsWith}
 use Rattle.gl_cli.specs.Runs.{Turn, script_turns, last_state, turn_events, turn_text, all_events, all_text, done_text}
 
@@ -30,3 +32,16 @@ pub record ShownAt (base : Base) (script : List ℕ) (before after : Option (Lis
   pub few : count ≤ length (next_events ahead)
   pub told : written ≢ [] → count ≡ length (next_events ahead)
   pub stands : StandsFor image (state_after (opened base) (all_events answered ++ take count (next_events ahead)))
+
+-- the disk is as it was, and nothing was written
+abbrev pub IsUntouched : DiskState → DiskState → Option (List ℕ) → Option (List ℕ) → Type 0
+IsUntouched old new before after = IsUnchanged old new × Appends before after []
+
+-- How a disk shows a command that has ended, from an opening with this base on: it was left untouched, or each image that a crash
+-- may leave shows it; what `check` looked at stands as it was.
+abbrev pub ExitShows : Command → Base → Option (List ℕ) → Option (List ℕ) → Option (List ℕ) → DiskState → DiskState → Type 0
+ExitShows (asked.Session store options) base left before after old new =
+    IfSome left (λ script. IsUntouched old new before after ⊎ ((image : Image) → new.may_leave image → ShownAt base script before after image))
+ExitShows (asked.Check store options) base left before after old new =
+    IsUntouched old new before after ⊎ ((image : Image) → new.may_leave image → StandsFor image (opened base))
+ExitShows asked.Usage base left before after old new = IsUntouched old new before after

@@ -1,21 +1,19 @@
 -- How a command ends: its status, what the sink gained, and which counts of faults moved.
-use Rattle.std.specs.Prelude.{◌≡◌, ◌≢◌, ◌⊎◌, ℕ, Bool, true, false, List, [], length, nat_lt, Option, Some, None, ⊤}
+use Rattle.std.specs.Prelude.{◌≡◌, ◌≢◌, ◌⊎◌, ℕ, Bool, true, false, List, [], ◌∷◌, length, nat_lt, Option, Some, None, IfSome, ⊤, codes}
+use Rattle.std.specs.Fmt.{decimal}
 use Rattle.std.specs.Io.KnownBytes.{Appends}
 use Rattle.gl_base.specs.Counts.{Rose}
-use Rattle.gl_outside.specs.Disk.{DiskState}
 use Rattle.gl_gatelog.specs.declared.kind.Log.{Log}
-use Rattle.gl_gatelog.specs.declared.kind.Log.TheVariants.{Journal, Index}
-use Rattle.gl_gatelog.specs.Stand.{IsEmptyBehind}
-use Rattle.gl_node.specs.declared.node.Options.{Options}
-use Rattle.gl_node.specs.State.{Base, State}
-use Rattle.gl_node.specs.Standing.{empty_base}
+use Rattle.gl_fields.specs.Entries.{version_after}
+use Rattle.gl_node.specs.State.{Base, Event, State, commit_count, opened}
 use Rattle.gl_cli.specs.declared.status.Command.{Command}
 use Rattle.gl_cli.specs.declared.status.Command.TheVariants as asked
 use Rattle.gl_cli.specs.declared.status.Status.{Status}
 use Rattle.gl_cli.specs.declared.status.Status.TheVariants.{Done, Usage, SourceFault, SinkFault, DiskFault, BadScript, Damaged, OutOfMemory, PatternFault, ScriptTooLong}
 use Rattle.gl_cli.specs.Writing.{BeginsWith}
 use Rattle.gl_cli.specs.Script.{script_lines, script_limit, bad_line}
-use Rattle.gl_cli.specs.Runs.{script_turns, answers, output, last_state}
+use Rattle.gl_cli.specs.Answers.{words_text}
+use Rattle.gl_cli.specs.Runs.{all_events, script_turns, answers, output}
 
 abbrev pub status_by : Option ℕ → Bool → Status
 status_by (Some line) long = BadScript line
@@ -33,10 +31,20 @@ EndsBy script (BadScript line) = script_status script ≡ BadScript line
 EndsBy script ScriptTooLong = script_status script ≡ ScriptTooLong
 EndsBy script other = ⊤
 
+-- the statuses of `check`, which reads no script
+abbrev pub IsCheckStatus : Status → Type 0
+IsCheckStatus Done = ⊤
+IsCheckStatus SinkFault = ⊤
+IsCheckStatus DiskFault = ⊤
+IsCheckStatus (Damaged log area at) = ⊤
+IsCheckStatus OutOfMemory = ⊤
+IsCheckStatus other = ⊥
+
 -- the statuses with which a command may end; no line builds a pattern yet
 abbrev pub MayEnd : Command → Status → Type 0
 MayEnd asked.Usage status = status ≡ Usage
 MayEnd (asked.Session store options) status = (status ≢ Usage) × (status ≢ PatternFault)
+MayEnd (asked.Check store options) status = IsCheckStatus status
 
 -- the statuses with which each line that is run was answered
 abbrev pub AnsweredAll : Status → Type 0
@@ -62,13 +70,31 @@ pub record SessionEnd (base : Base) (script : List ℕ) (status : Status) (befor
   pub gained : Appends before after written
   pub wrote : Wrote base marks script status written
 
--- the state after all events of a script, from an empty store on
-abbrev pub final_state : Options → List ℕ → State
-final_state options script = last_state (empty_base options) (script_turns (empty_base options) [] script)
+-- the line of `check`: how many entries the journal has, how many are committed, and the version of the configuration
+abbrev pub check_text : State → List ℕ
+check_text s = words_text (codes "check" ∷ codes "journal" ∷ decimal (length s.journal) ∷ codes "committed" ∷ decimal (commit_count s) ∷ codes "version" ∷ decimal (version_after s.journal) ∷ [])
 
--- behind its first area each log has nothing, in every image that the disk may leave
-abbrev pub IsEmptyBehindLogs : DiskState → Type 0
-IsEmptyBehindLogs disk = IsEmptyBehind Journal disk × IsEmptyBehind Index disk
+-- what `check` wrote: with `Done` its line, and else a front of it
+abbrev pub WroteLine : State → Status → List ℕ → Type 0
+WroteLine s Done written = written ≡ check_text s
+WroteLine s other written = BeginsWith (check_text s) written
+
+pub record CheckEnd (base : Base) (status : Status) (before after : Option (List ℕ)) : Type 0 where
+  pub written : List ℕ
+  pub gained : Appends before after written
+  pub wrote : WroteLine (opened base) status written
+
+-- How a command ends that opened its store with this base, over a source with these bytes left, where that is told.
+abbrev pub CommandEnd : Command → Base → Option (List ℕ) → Status → Option (List ℕ) → Option (List ℕ) → Type 0
+CommandEnd (asked.Session store options) base left status before after = IfSome left (λ script. SessionEnd base script status before after)
+CommandEnd (asked.Check store options) base left status before after = CheckEnd base status before after
+CommandEnd asked.Usage base left status before after = ⊤
+
+-- the events of a command: those of its script, where the source tells it
+abbrev pub OfEvents : Command → Base → Option (List ℕ) → (List Event → Type 0) → Type 0
+OfEvents (asked.Session store options) base left P = IfSome left (λ script. P (all_events (script_turns base [] script)))
+OfEvents (asked.Check store options) base left P = P []
+OfEvents asked.Usage base left P = ⊤
 
 -- a damaged store: the command says so, unless the disk failed or memory was wanting
 abbrev pub SaysDamaged : Status → Log → ℕ → ℕ → Type 0

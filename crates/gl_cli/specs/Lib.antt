@@ -1,5 +1,6 @@
 pub mod Answers
 pub mod Arrivals
+pub mod Crashes
 pub mod Desk
 pub mod Ends
 pub mod Parsing

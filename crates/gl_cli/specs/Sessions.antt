@@ -1,9 +1,13 @@
 -- A session in the middle of its script.
-use Rattle.std.specs.Prelude.{◌≡◌, ℕ, ◌+◌, ◌<◌, ◌≤◌, ◌↔◌, List, [], ◌∷◌, ◌++◌, length, Option, Some, ⊤}
+use Rattle.std.specs.Prelude.{◌≡◌, ◌≢◌, ℕ, ◌+◌, ◌<◌, ◌≤◌, ◌↔◌, List, [], ◌∷◌, ◌++◌, length, take, Option, Some, ⊤}
 use Rattle.std.specs.List.{flat_map, enumerate_from}
 use Rattle.std.specs.Fmt.{decimal}
 use Rattle.std.specs.Option.{option_map}
 use Rattle.std.specs.Io.KnownBytes.{Appends}
+use Rattle.gl_outside.specs.Disk.{Image, DiskState, LeavesOnly, Tells}
+use Rattle.gl_node.specs.Moments.{LeftBy}
+use Rattle.gl_node.specs.Node.{NodeOn}
+use Rattle.gl_node.specs.Standing.{StandsFor}
 use Rattle.gl_node.specs.State.{Base, State, opened, state_after}
 use Rattle.gl_fields.specs.declared.entry.Outcome.{Outcome}
 use Rattle.gl_node.specs.Arrivals.{arrival_of, arrival_events}
@@ -91,3 +95,24 @@ DoesTurn turn old new before now =
 
 abbrev pub CutsTurn : (State → Turn) → Desk → Option (List ℕ) → Option (List ℕ) → Type 0
 CutsTurn turn old before now = (s : State) → DeskKeeps old s → CutShort (turn s) before now
+
+-- A crash at any moment of a turn leaves the state after some of the first of its events.
+abbrev pub DuringTurn : (State → Turn) → Desk → DiskState → DiskState → Type 0
+DuringTurn turn desk old new =
+    Tells old → NodeOn desk.node old → (s : State) → DeskKeeps desk s → LeavesOnly old new (LeftBy s (turn_events (turn s)) old)
+
+-- Where the session ended in a line: a front of its answer lines is in the sink, and the image stands for the state after
+-- some of the first of its events, after all of them where a byte of its answer is in the sink.
+pub record CutAt (s : State) (turn : Turn) (before now : Option (List ℕ)) (image : Image) : Type 0 where
+  pub front : List ℕ
+  pub begins : BeginsWith (turn_text turn) front
+  pub gained : Appends before now front
+  pub count : ℕ
+  pub few : count ≤ length (turn_events turn)
+  pub told : front ≢ [] → count ≡ length (turn_events turn)
+  pub stands : StandsFor image (state_after s (take count (turn_events turn)))
+
+-- So it is with each image that a crash may leave then.
+abbrev pub CutLeaves : (State → Turn) → Desk → Option (List ℕ) → Option (List ℕ) → DiskState → DiskState → Type 0
+CutLeaves turn desk before now old new =
+    Tells old → NodeOn desk.node old → (s : State) → DeskKeeps desk s → (image : Image) → new.may_leave image → CutAt s (turn s) before now image

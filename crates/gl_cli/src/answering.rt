@@ -7,7 +7,7 @@ ghost use Rattle.gl_node.specs.Node.{Keeps, NodeOn, NodeReady, store_of};
 ghost use Rattle.gl_node.specs.State.{State, outcomes};
 ghost use Rattle.gl_cli.specs.Desk.{DeskKeeps};
 ghost use Rattle.gl_cli.specs.Runs.{done_text, listed};
-ghost use Rattle.gl_cli.specs.Sessions.{DoesTurn, CutsTurn, IsFit, turn_at, payload_turn, claim_turn, finish_turn, outcomes_text};
+ghost use Rattle.gl_cli.specs.Sessions.{DoesTurn, CutsTurn, DuringTurn, CutLeaves, IsFit, turn_at, payload_turn, claim_turn, finish_turn, outcomes_text};
 ghost use Rattle.gl_cli.specs.Statuses.{IsSinkStatus, IsLineStatus};
 ghost use Rattle.gl_cli.specs.Writing.{AppendsSome};
 
@@ -16,12 +16,12 @@ use crate::line::Line;
 use crate::print;
 use crate::status::Status;
 use crate::writer::write_all;
-use gl_node::Node;
+use gl_node::{Node, law_images_show_the_state};
 use gl_outside::{Disk, Outside, Sink};
 use std::alloc::Global;
 
-/// Writes a text, or tells how that ends the session.
-fn send<K: Sink>(sink: &mut K, bytes: &[u8]) -> Result<(), Status>
+/// Writes a text, or tells how that ends the command.
+pub fn send<K: Sink>(sink: &mut K, bytes: &[u8]) -> Result<(), Status>
     ensures ok { OnOk result (Appends (K.contents sink.old) (K.contents sink.new) bytes.now) }
     ensures err { OnErr result (AppendsSome (K.contents sink.old) (K.contents sink.new) bytes.now) }
     ensures kind { IfErr result IsSinkStatus }
@@ -58,8 +58,13 @@ fn answer_payload<D: Disk, K: Sink>(
     ensures sink_cause { HasCause Status.SinkFault (K.faults sink.old) (K.faults sink.new) result }
     ensures disk_cause { HasCause Status.DiskFault (D.faults disk.old) (D.faults disk.new) result }
     ensures tells { (D.state disk.new).tells ≡ (D.state disk.old).tells }
+    // A crash at any moment leaves the state after some of the first of the line's events, and after all of them where
+    // a byte of the answer is in the sink.
+    ensures any_moment { DuringTurn (payload_turn moment input.now peer.now payload.now) desk.old (D.state disk.old) (D.state disk.new) }
+    ensures cut_leaves { OnErr result (CutLeaves (payload_turn moment input.now peer.now payload.now) desk.old (K.contents sink.old) (K.contents sink.new) (D.state disk.old) (D.state disk.new)) }
 {
     let arrival = desk.datagram(disk, moment, input, peer, payload)?;
+    law_images_show_the_state(&desk.node, disk);
     let text = print::arrival_text(alloc, &arrival)?;
     send(sink, text.as_bytes())?;
     Ok(())
@@ -107,8 +112,13 @@ fn answer_finish<D: Disk, K: Sink>(
     ensures sink_cause { HasCause Status.SinkFault (K.faults sink.old) (K.faults sink.new) result }
     ensures disk_cause { HasCause Status.DiskFault (D.faults disk.old) (D.faults disk.new) result }
     ensures tells { (D.state disk.new).tells ≡ (D.state disk.old).tells }
+    // A crash at any moment leaves the state after some of the first of the line's events, and after all of them where
+    // a byte of the answer is in the sink.
+    ensures any_moment { DuringTurn (finish_turn worker) desk.old (D.state disk.old) (D.state disk.new) }
+    ensures cut_leaves { OnErr result (CutLeaves (finish_turn worker) desk.old (K.contents sink.old) (K.contents sink.new) (D.state disk.old) (D.state disk.new)) }
 {
     let finished = desk.finish(alloc, disk, worker)?;
+    law_images_show_the_state(&desk.node, disk);
     let text = print::finish_text(alloc, &finished)?;
     send(sink, text.as_bytes())?;
     Ok(())
@@ -183,7 +193,12 @@ pub fn answer_line<D: Disk, K: Sink>(
     ensures sink_cause { HasCause Status.SinkFault (K.faults sink.old) (K.faults sink.new) result }
     ensures disk_cause { HasCause Status.DiskFault (D.faults disk.old) (D.faults disk.new) result }
     ensures tells { (D.state disk.new).tells ≡ (D.state disk.old).tells }
+    // A crash at any moment leaves the state after some of the first of the line's events, and after all of them where
+    // a byte of the answer is in the sink.
+    ensures any_moment { DuringTurn (turn_at moment line.now) desk.old (D.state disk.old) (D.state disk.new) }
+    ensures cut_leaves { OnErr result (CutLeaves (turn_at moment line.now) desk.old (K.contents sink.old) (K.contents sink.new) (D.state disk.old) (D.state disk.new)) }
 {
+    law_images_show_the_state(&desk.node, disk);
     match line {
         Line::Blank | Line::At { .. } => Ok(()),
         Line::Udp {

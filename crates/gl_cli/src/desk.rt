@@ -1,10 +1,11 @@
 // A node with the ranges that its workers are at.
 ghost use Rattle.std.specs.Prelude.{◌≡◌, ◌≢◌, ◌+◌, ◌<◌, ◌≤◌, ℕ, ◌++◌, length, take, vec_capacity, IfOk, IfErr, OnOk, OnErr, MatchOption, All};
 ghost use Rattle.gl_base.specs.Counts.{HasCause};
-ghost use Rattle.gl_outside.specs.Disk.{Tells};
+ghost use Rattle.gl_outside.specs.Disk.{Tells, LeavesOnly};
 ghost use Rattle.gl_node.specs.Arrivals.{arrival_of, arrival_events};
 ghost use Rattle.gl_node.specs.Calls.{claimed_of, finished_of};
 ghost use Rattle.gl_node.specs.Claims.{claim_answer, claimed_by, finish_answer, finish_events};
+ghost use Rattle.gl_node.specs.Moments.{LeftBy};
 ghost use Rattle.gl_node.specs.Node.{IsRunning, Keeps, NodeOn, NodeReady, store_of};
 ghost use Rattle.gl_node.specs.State.{Base, State, opened, state_after};
 ghost use Rattle.gl_cli.specs.Answers.{words_text, claim_words};
@@ -15,7 +16,7 @@ ghost use Rattle.std.specs.String.{string_bytes};
 
 use crate::print::claim_text;
 use crate::status::Status;
-use gl_node::{Arrival, Claimed, Finished, Node, Range, stage_range};
+use gl_node::{Arrival, Claimed, Finished, Node, Range, law_images_show_the_state, stage_range};
 use gl_outside::Disk;
 use std::alloc::Global;
 
@@ -72,6 +73,9 @@ impl Desk {
         ensures kind { IfErr result IsNodeStatus }
         ensures cause { HasCause Status.DiskFault (D.faults disk.old) (D.faults disk.new) result }
         ensures tells { (D.state disk.new).tells ≡ (D.state disk.old).tells }
+        // A crash at any moment leaves the state after some of the first of these events.
+        ensures any_moment { Tells (D.state disk.old) → NodeOn self.old.node (D.state disk.old) → (s : State) → DeskKeeps self.old s
+            → LeavesOnly (D.state disk.old) (D.state disk.new) (LeftBy s (arrival_events s moment input.now peer.now bytes.now) (D.state disk.old)) }
     {
         let arrival = self.node.datagram(disk, moment, input, peer, bytes)?;
         Ok(arrival)
@@ -126,7 +130,11 @@ impl Desk {
         ensures kind { IfErr result IsNodeStatus }
         ensures cause { HasCause Status.DiskFault (D.faults disk.old) (D.faults disk.new) result }
         ensures tells { (D.state disk.new).tells ≡ (D.state disk.old).tells }
+        // A crash at any moment leaves the state after some of the first of these events.
+        ensures any_moment { Tells (D.state disk.old) → NodeOn self.old.node (D.state disk.old) → (s : State) → DeskKeeps self.old s
+            → LeavesOnly (D.state disk.old) (D.state disk.new) (LeftBy s (finish_events s worker) (D.state disk.old)) }
     {
+        law_images_show_the_state(&self.node, disk);
         let Some(place) = self.place_of(worker) else {
             return Ok(Finished::NoClaim);
         };

@@ -7,6 +7,7 @@
 #![tactic(auto)]
 
 mod answering;
+mod checking;
 mod desk;
 mod law;
 mod line;

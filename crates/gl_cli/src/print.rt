@@ -88,6 +88,18 @@ pub fn done_text(alloc: Global, journalled: u64, committed: u64) -> Result<Strin
     format!(in alloc; "done {journalled} {committed}\n")
 }
 
+/// The line of `check`.
+pub fn check_text(
+    alloc: Global,
+    journalled: u64,
+    committed: u64,
+    version: u64,
+) -> Result<String, AllocError>
+    ensures { IfOk result (λ text. string_bytes text ≡ words_text (codes "check" ∷ codes "journal" ∷ decimal journalled ∷ codes "committed" ∷ decimal committed ∷ codes "version" ∷ decimal version ∷ [])) }
+{
+    format!(in alloc; "check journal {journalled} committed {committed} version {version}\n")
+}
+
 /// The line of an entry in a list.
 pub fn listed_text(alloc: Global, position: u64, outcome: &Outcome) -> Result<Vec<u8>, AllocError>
     ensures { IfOk result (λ text. text.items ≡ words_text (decimal position ∷ outcome_words outcome.now)) }

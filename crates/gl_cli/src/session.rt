@@ -1,13 +1,15 @@
 // A session: the lines of a script, one after another.
 ghost use Rattle.std.specs.Prelude.{◌≡◌, ℕ, [], max, IfSome};
 ghost use Rattle.std.specs.Io.KnownBytes.{IsAtEnd};
-ghost use Rattle.gl_outside.specs.Disk.{Image, Tells};
+ghost use Rattle.gl_outside.specs.Disk.{Image, Tells, LeavesOnly};
+ghost use Rattle.gl_node.specs.Moments.{LeftBy};
 ghost use Rattle.gl_node.specs.Node.{NodeOn, NodeReady};
 ghost use Rattle.gl_node.specs.Standing.{StandsFor};
 ghost use Rattle.gl_node.specs.State.{Base, State, opened};
+ghost use Rattle.gl_cli.specs.Crashes.{ShownAt};
 ghost use Rattle.gl_cli.specs.Desk.{DeskKeeps};
 ghost use Rattle.gl_cli.specs.Ends.{SessionEnd, HasCauses, EndsBy, AnsweredAll};
-ghost use Rattle.gl_cli.specs.Runs.{script_turns, last_state};
+ghost use Rattle.gl_cli.specs.Runs.{all_events, script_turns, last_state};
 ghost use Rattle.gl_cli.specs.Script.{moment_in};
 ghost use Rattle.gl_cli.specs.Statuses.{IsRunStatus, source_status_of};
 
@@ -68,26 +70,28 @@ pub fn session<D: Disk, S: Source, K: Sink>(
         (record { source = S.faults source.old; sink = K.faults sink.old; disk = D.faults disk.old; shop = 0 })
         (record { source = S.faults source.new; sink = K.faults sink.new; disk = D.faults disk.new; shop = 0 }) }
     ensures tells { (D.state disk.new).tells ≡ (D.state disk.old).tells }
+    // A crash at any moment leaves the state after some of the first of the script's events.
+    ensures any_moment { Tells (D.state disk.old) → NodeOn desk.old.node (D.state disk.old) → (base : Base) → DeskKeeps desk.old (opened base) →
+        IfSome (S.left source.old) (λ script. LeavesOnly (D.state disk.old) (D.state disk.new) (LeftBy (opened base) (all_events (script_turns base [] script)) (D.state disk.old))) }
+    // However the session ends, each event whose answer has a byte in the sink is in each image that a crash may leave.
+    ensures at_exit { Tells (D.state disk.old) → NodeOn desk.old.node (D.state disk.old) → (base : Base) → DeskKeeps desk.old (opened base) →
+        IfSome (S.left source.old) (λ script. (image : Image) → (D.state disk.new).may_leave image → ShownAt base script (K.contents sink.old) (K.contents sink.new) image) }
 {
     let mut reader = LineReader::new(alloc, SCRIPT_LIMIT);
     let mut moment = 0;
     let mut number: u64 = 0;
+    law_images_show_the_state(&desk.node, disk);
     'lines: loop {
+        law_images_show_the_state(&desk.node, disk);
         match reader.next_line(alloc, source) {
             Err(fault) => return source_status(fault),
-            Ok(Next::TooLong) => {
-                law_images_show_the_state(&desk.node, disk);
-                return Status::ScriptTooLong;
-            }
+            Ok(Next::TooLong) => return Status::ScriptTooLong,
             Ok(Next::End) => break 'lines,
             Ok(Next::Line(text)) => {
                 number += 1;
                 match line_of(alloc, text.as_slice()) {
                     Err(_) => return Status::OutOfMemory,
-                    Ok(None) => {
-                        law_images_show_the_state(&desk.node, disk);
-                        return Status::BadScript { line: number };
-                    }
+                    Ok(None) => return Status::BadScript { line: number },
                     Ok(Some(line)) => match answer_line(alloc, desk, disk, sink, moment, &line) {
                         Err(status) => return status,
                         Ok(()) => moment = moment_with(moment, &line),
@@ -98,9 +102,6 @@ pub fn session<D: Disk, S: Source, K: Sink>(
     }
     match write_done(alloc, desk, sink) {
         Err(status) => status,
-        Ok(()) => {
-            law_images_show_the_state(&desk.node, disk);
-            Status::Done
-        }
+        Ok(()) => Status::Done,
     }
 }

@@ -9,7 +9,10 @@ use std::alloc::AllocError;
 /// What the words of the command line ask for.
 #[derive(Debug, Drop)]
 pub enum Command {
+    /// Opens the store and runs a script.
     Session { store: Text, options: Options },
+    /// Opens the store and says what it holds.
+    Check { store: Text, options: Options },
     Usage,
 }
 

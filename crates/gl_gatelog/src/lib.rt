@@ -4,7 +4,7 @@
 //! that a crash may leave has the batches that were answered, and at most the one whose append was cut off.
 //!
 //! The areas of a log read as one of three things: no batch, a whole log, or a log that is broken at a place
-//! (`law_one_reading`). `GateLog::reopen` answers by that, and `Opening` reads a log batch by batch for a caller that
+//! (`law_one_reading`). `GateLog::open` answers by that, and `Opening` reads a log batch by batch for a caller that
 //! looks into the records on the way. What is said of a disk's content rests on a disk that tells its bytes.
 #![tactic(auto)]
 
@@ -13,9 +13,9 @@ mod batch;
 mod gate;
 mod kind;
 mod log;
+mod open;
 mod position;
 mod reader;
-mod reopen;
 mod walk;
 
 pub use kind::{Log, LogFault};
@@ -49,7 +49,7 @@ mod tests {
         assert_eq!(rt; log.place(4), (2, 0));
         assert_eq!(rt; disk.bytes(0).len(), 4214);
         assert_eq!(rt; disk.bytes(2).len(), 1048);
-        let mut again = GateLog::reopen(alloc, &mut disk, Log::Journal, 8192, 1 << 40)?;
+        let mut again = GateLog::open(alloc, &mut disk, Log::Journal, 8192, 1 << 40)?;
         assert_eq!(rt; again.bytes(), 5260);
         assert_eq!(rt; again.len(), 5);
         assert_eq!(rt; again.place(3), (0, 3166));
@@ -67,7 +67,7 @@ mod tests {
     fn opened(alloc: Global, bytes: &[u8]) -> Result<Result<u64, LogFault>, Fail> {
         let mut disk = MemoryDisk::new(alloc, Vec::new(alloc))?;
         disk.write_at(0, 0, bytes)?;
-        match GateLog::reopen(alloc, &mut disk, Log::Journal, 4096, 1 << 40) {
+        match GateLog::open(alloc, &mut disk, Log::Journal, 4096, 1 << 40) {
             Ok(log) => Ok(Ok(log.len())),
             Err(fault) => Ok(Err(fault)),
         }

@@ -49,54 +49,6 @@ impl Model for GateLog {
 }
 
 impl GateLog {
-    /// Opens a log that has no batch, and writes its begin batch.
-    pub fn open<D: Disk>(
-        alloc: Global,
-        disk: &mut D,
-        log: Log,
-        segment: u64,
-        limit: u64,
-    ) -> Result<GateLog, LogFault>
-        requires least { 4096 ≤ segment }
-        requires most { segment ≤ 2 ^ 30 }
-        requires limit { 4096 ≤ limit }
-        ensures value { IfOk result (λ v. v ≡ begun log segment limit) }
-        ensures opened { Tells (D.state disk.old) → IsEmptyBehind log (D.state disk.old) → IfOk result (λ v. (v ≡ begun log segment limit) × StandsOn v [] (D.state disk.new)) }
-        ensures any_moment { Tells (D.state disk.old) → IsEmptyBehind log (D.state disk.old) → LeavesOnly (D.state disk.old) (D.state disk.new) (LeftByOpening log segment (D.state disk.old)) }
-        ensures ready { Tells (D.state disk.old) → IfOk result (λ v. IsReady v (D.state disk.new)) }
-        ensures cause { IfErr result (λ e. (e ≡ LogFault.DiskFault) ⊎ (e ≡ LogFault.OutOfMemory) ⊎ (e ≡ LogFault.Damaged (area_of log 0) 0)) }
-        ensures damaged { Tells (D.state disk.old) → IsErrOf result (LogFault.Damaged (area_of log 0) 0) → 1 < length ((D.state disk.old).reads (area_of log 0)) }
-        // No other area is written.
-        ensures elsewhere { Tells (D.state disk.old) → (b : ℕ) → b ≢ area_of log 0 → (D.state disk.new).reads b ≡ (D.state disk.old).reads b }
-        ensures sound { Tells (D.state disk.old) → OnOk result (length ((D.state disk.old).reads (area_of log 0)) ≤ 1) }
-        // A log that holds something is left as it is.
-        ensures untouched { Tells (D.state disk.old) → 1 < length ((D.state disk.old).reads (area_of log 0)) → IsUnchanged (D.state disk.old) (D.state disk.new) }
-        ensures faults { HasCause LogFault.DiskFault (D.faults disk.old) (D.faults disk.new) result }
-        ensures tells { (D.state disk.new).tells ≡ (D.state disk.old).tells }
-    {
-        let area = area_number(log, 0);
-        disk.sync(area)?;
-        let length = disk.length(area)?;
-        if length > 1 {
-            return Err(LogFault::Damaged { area, at: 0 });
-        }
-        let batch = encode_begin(alloc, log, segment)?;
-        write_batch(disk, area, 0, false, &batch)?;
-        let (first, byte, gated) = next_place(log, segment, 0, 0, BEGIN_SIZE);
-        Ok(GateLog {
-            alloc,
-            log,
-            segment_size: segment,
-            limit,
-            segment: first,
-            byte,
-            gated,
-            places: Vec::new(alloc),
-            bytes: BEGIN_SIZE,
-            stopped: false,
-        })
-    }
-
     /// How many records there are.
     pub fn len(&self) -> u64
         ensures { result ≡ length self.now.places }

@@ -16,7 +16,7 @@ ghost use Rattle.gl_gatelog.specs.Progress.{at_begin, ReadBehind, HasRead, HasEn
 use crate::area::{is_opened, read_area, recorded_size};
 use crate::batch::body_len;
 use crate::log::{BEGIN_SIZE, area_number, fill, next_place};
-use crate::reopen::write_begin;
+use crate::open::write_begin;
 use crate::walk::batch_in;
 use crate::{GateLog, Log, LogFault};
 use gl_outside::{Disk, Outside};

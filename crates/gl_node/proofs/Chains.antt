@@ -1,5 +1,5 @@
 -- What is committed is the longest chain of finished ranges that fits.
-use Rattle.std.proofs.Common.{◌≡◌, ◌⊎◌, inl, inr, ⊎_elim, ℕ, zero, suc, ◌+◌, ◌<◌, ◌≤◌, ◌==◌, Bool, true, false, not, cond, nat_le, List, [], ◌∷◌, ◌++◌, length, get_or, filter, find, map, sum_by, Option, Some, None, refl, sym, ◌∙◌, ap, subst, arith}
+use Rattle.std.proofs.Common.{◌≡◌, ◌⊎◌, inl, inr, ⊎_elim, ℕ, zero, suc, ◌+◌, ◌<◌, ◌≤◌, ◌==◌, Bool, true, false, not, cond, nat_le, List, [], ◌∷◌, ◌++◌, length, get_or, filter, sum_by, Option, Some, None, refl, sym, ◌∙◌, ap, subst, arith}
 use Rattle.std.specs.List.{Contains, position, remove}
 use Rattle.std.proofs.lemmas.Bool.Decides.{nat_tests}
 use Rattle.std.proofs.lemmas.List.{get_or_default}
@@ -9,9 +9,9 @@ use Rattle.std.proofs.lemmas.List.Sums.{sum_by-cons, sum_by_push}
 use Rattle.std.proofs.lemmas.Option.{same_Some}
 use Rattle.gl_base.proofs.Counting.{find_at_none, find_at_some, All-remove}
 use Rattle.gl_node.specs.declared.mark.Mark.{Mark}
-use Rattle.gl_node.specs.State.{State, Event, Committed, happened, commit_count, except}
-use Rattle.gl_node.specs.Claims.{next_ready, fits, commits, index_size, range_batch}
-use Rattle.gl_node.specs.Chains.{IsChain, IsFittingChain, IsLongestChain, CommitsLongest}
+use Rattle.gl_node.specs.State.{State, Committed, happened, commit_count, except}
+use Rattle.gl_node.specs.Claims.{next_ready, fits, index_size, range_batch}
+use Rattle.gl_node.specs.Chains.{IsChain, IsFittingChain, CommitsLongest}
 use Rattle.gl_node.specs.Node.{AreTiled}
 use Rattle.gl_node.proofs.Ready.{no_commits, ready_is, commits_none, commits_more}
 use Rattle.gl_node.proofs.Tiling.{except_is, tiled_committed, count_committed}

@@ -1,6 +1,6 @@
 -- A store is damaged at one place at most, and one that is shown isn't damaged.
-use Rattle.std.proofs.Common.{◌≡◌, ◌≢◌, ◌⊎◌, inl, inr, ⊎_elim, ℕ, zero, suc, ◌+◌, ◌^◌, ◌≤◌, ◌<◌, List, [], ◌∷◌, ◌++◌, length, take, drop, map, get_or, Option, Some, None, refl, sym, ◌∙◌, ap, subst, arith, append_assoc, append-nil, length-append, length-take, take-append-drop}
-use Rattle.std.specs.List.{All, flat_map, slice_get}
+use Rattle.std.proofs.Common.{◌≡◌, ◌⊎◌, inl, inr, ⊎_elim, ℕ, zero, suc, List, [], ◌∷◌, ◌++◌, length, take, drop, map, Option, Some, None, refl, sym, ◌∙◌, ap, subst, arith, append_assoc, append-nil, length-take, take-append-drop}
+use Rattle.std.specs.List.{slice_get}
 use Rattle.std.proofs.lemmas.Grind.{flat_map-append}
 use Rattle.std.proofs.lemmas.List.{take-append-le, take_at, take-map, length-map}
 use Rattle.std.proofs.lemmas.Option.{slice_get_within}
@@ -11,8 +11,7 @@ use Rattle.gl_gatelog.specs.declared.kind.Log.TheVariants.{Journal, Index}
 use Rattle.gl_gatelog.specs.Batch.{Batch, BatchAt}
 use Rattle.gl_gatelog.specs.Gate.{IsClosed}
 use Rattle.gl_gatelog.specs.Log.{Holds, IsSegmentSize, LogIs, Place, area_of, begin, end_area, end_of, log_end, next, records_of}
-use Rattle.gl_gatelog.specs.Reading.{IsBroken, HasNoBegin}
-use Rattle.gl_gatelog.specs.Stand.{IsFresh}
+use Rattle.gl_gatelog.specs.Reading.{IsBroken}
 use Rattle.gl_gatelog.proofs.Readings.{closed_or_broken}
 use Rattle.gl_gatelog.proofs.Unique.{one_batch, one_log, not_closed, same_size}
 use Rattle.gl_fields.specs.declared.entry.Entry.{Entry}

@@ -1,6 +1,5 @@
 mod Adding
 pub mod Appending
-mod Begun
 mod Chains
 mod Entered
 pub mod Finishes
@@ -18,3 +17,5 @@ pub mod Damages
 pub mod Taking
 pub mod Logs
 pub mod TakenUp
+pub mod Reopened
+pub mod Openings

@@ -1,21 +1,19 @@
 -- What reading a log finds, in the node's words.
-use Rattle.std.proofs.Common.{◌≡◌, ◌≢◌, inl, inr, ⊎_elim, ◌⊎◌, ℕ, ◌+◌, ◌≤◌, ◌<◌, List, [], ◌∷◌, ◌++◌, length, replicate, Bool, IsTrue, true, false, Result, Ok, Err, if◌then◌else◌, Option, None, Some, MatchOption, Vec, refl, sym, ◌∙◌, ap, subst, arith, length-append}
-use Rattle.std.specs.declared.alloc.Global.{Global}
+use Rattle.std.proofs.Common.{◌≡◌, inl, inr, ◌⊎◌, ℕ, ◌+◌, List, [], ◌∷◌, ◌++◌, length, replicate, Bool, IsTrue, true, false, if◌then◌else◌, refl, sym, ◌∙◌, ap, subst, arith, length-append}
 use Rattle.std.proofs.lemmas.Bool.{false≢true}
 use Rattle.std.proofs.lemmas.Grind.{flat_map-append}
 use Rattle.std.proofs.lemmas.List.{append-nil, length-replicate}
-use Rattle.gl_outside.specs.Disk.{Image, DiskState, Tells, IsUnchanged}
+use Rattle.gl_outside.specs.Disk.{Image, DiskState, Tells}
 use Rattle.gl_gatelog.specs.declared.kind.Log.{Log}
 use Rattle.gl_gatelog.specs.declared.kind.LogFault.{LogFault}
 use Rattle.gl_gatelog.specs.declared.kind.LogFault.TheVariants as fault
 use Rattle.gl_gatelog.specs.Batch.{Batch, BatchAt}
-use Rattle.gl_gatelog.specs.Log.{Holds, Place, area_of, begin, end_of, log_end, records_of}
-use Rattle.gl_gatelog.specs.Progress.{OpeningView, ReadBehind, HasRead, HasEnded, IsUnbegun, IsFurther, IsNoFurther, at_begin, unread}
-use Rattle.gl_gatelog.specs.Reading.{HasNoBegin, IsBroken, IsOpenFault}
-use Rattle.gl_gatelog.specs.View.{GateView, appended, batch_of, begun}
-use Rattle.gl_node.specs.declared.fault.OpenFault.{OpenFault}
-use Rattle.gl_node.specs.declared.fault.OpenFault.TheVariants.{Damaged, DiskFault, OutOfMemory}
-use Rattle.gl_node.specs.Damage.{FirstUnlawful, UnlawfulAt}
+use Rattle.gl_gatelog.specs.Log.{Holds, Place, area_of, begin, log_end, records_of}
+use Rattle.gl_gatelog.specs.Progress.{OpeningView, ReadBehind, HasRead, IsFurther, IsNoFurther, at_begin, unread}
+use Rattle.gl_gatelog.specs.Reading.{IsBroken, IsOpenFault}
+use Rattle.gl_gatelog.specs.View.{GateView, begun}
+use Rattle.gl_node.specs.declared.fault.OpenFault.TheVariants.{Damaged}
+use Rattle.gl_node.specs.Damage.{UnlawfulAt}
 use Rattle.gl_node.specs.Opening.{IsOf, open_fault_of}
 use Rattle.gl_node.proofs.Damages.{behind}
 
@@ -91,27 +89,29 @@ module _ (log : Log) (P : List (List ℕ) → Type 0) where
       absurd (omega (arith, ap (λ (l : List Batch). length l) none2.0, length-append b (batch ∷ [])))
 
 -- the reader's own fields, as it goes on
-pub of_begin : (log : Log) (segment limit : ℕ) (v : OpeningView) → v.log ≡ at_begin log segment limit v → IsOf log limit 0 v
-of_begin log segment limit v is = at v.has_begin is
+pub of_begin : (log : Log) (segment limit : ℕ) (v : OpeningView) → v.log ≡ at_begin log segment limit v → IsOf log segment limit 0 v
+of_begin log segment limit v is = at v.has_begin refl is
   where
-    at : (b : Bool) → v.log ≡ (if b then begun log v.log.segment_size limit else unread log segment limit v.log.gated) → IsOf log limit 0 v
-    at true e = record {
+    at : (b : Bool) → v.has_begin ≡ b → v.log ≡ (if b then begun log v.log.segment_size limit else unread log segment limit v.log.gated) → IsOf log segment limit 0 v
+    at true has e = record {
       log_is = ap (λ (x : GateView). x.log) e;
       limit_is = ap (λ (x : GateView). x.limit) e;
       running = ap (λ (x : GateView). x.stopped) e;
       count_is = ap (λ (x : GateView). length x.places) e;
       fresh = λ none. refl;
+      sized = λ none. absurd (false≢true (sym none ∙ has));
     }
-    at false e = record {
+    at false has e = record {
       log_is = ap (λ (x : GateView). x.log) e;
       limit_is = ap (λ (x : GateView). x.limit) e;
       running = ap (λ (x : GateView). x.stopped) e;
       count_is = ap (λ (x : GateView). length x.places) e;
       fresh = λ none. refl;
+      sized = λ none. ap (λ (x : GateView). x.segment_size) e;
     }
 
-pub of_further : (log : Log) (limit count more : ℕ) (batch : Batch) (v w : OpeningView) → IsOf log limit count v → v.has_begin ≡ true → IsFurther batch v w → more ≡ count + length batch → IsOf log limit more w
-of_further log limit count more batch v w is with_begin further count_more = record {
+pub of_further : (log : Log) (segment limit count more : ℕ) (batch : Batch) (v w : OpeningView) → IsOf log segment limit count v → v.has_begin ≡ true → IsFurther batch v w → more ≡ count + length batch → IsOf log segment limit more w
+of_further log segment limit count more batch v w is with_begin further count_more = record {
   log_is = ap (λ (x : GateView). x.log) further.log ∙ is.log_is;
   limit_is = ap (λ (x : GateView). x.limit) further.log ∙ is.limit_is;
   running = ap (λ (x : GateView). x.stopped) further.log ∙ is.running;
@@ -124,15 +124,17 @@ of_further log limit count more batch v w is with_begin further count_more = rec
     count_more,
   );
   fresh = λ none. absurd (false≢true (sym none ∙ further.has_begin ∙ with_begin));
+  sized = λ none. absurd (false≢true (sym none ∙ further.has_begin ∙ with_begin));
 }
 
-pub of_end : (log : Log) (limit count : ℕ) (v w : OpeningView) → IsOf log limit count v → IsNoFurther v w → IsOf log limit count w
-of_end log limit count v w is end = record {
+pub of_end : (log : Log) (segment limit count : ℕ) (v w : OpeningView) → IsOf log segment limit count v → IsNoFurther v w → IsOf log segment limit count w
+of_end log segment limit count v w is end = record {
   log_is = ap (λ (x : GateView). x.log) end.log ∙ is.log_is;
   limit_is = ap (λ (x : GateView). x.limit) end.log ∙ is.limit_is;
   running = ap (λ (x : GateView). x.stopped) end.log ∙ is.running;
   count_is = ap (λ (x : GateView). length x.places) end.log ∙ is.count_is;
   fresh = λ none. is.fresh (sym end.has_begin ∙ none);
+  sized = λ none. ap (λ (x : GateView). x.segment_size) end.log ∙ is.sized (sym end.has_begin ∙ none);
 }
 
 pub records_push : (b : List Batch) (batch : Batch) → records_of (b ++ batch ∷ []) ≡ records_of b ++ batch

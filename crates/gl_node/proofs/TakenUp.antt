@@ -1,14 +1,13 @@
 -- Both logs are taken up: what their areas hold meanwhile.
-use Rattle.std.proofs.Common.{◌≡◌, ◌≢◌, inl, inr, ⊎_elim, ◌⊎◌, ℕ, ◌+◌, ◌≤◌, ◌<◌, List, [], ◌∷◌, length, Bool, true, false, if◌then◌else◌, Option, None, Some, refl, sym, ◌∙◌, ap, subst, arith}
-use Rattle.std.proofs.lemmas.Bool.{false≢true}
+use Rattle.std.proofs.Common.{◌≡◌, ◌≢◌, inl, inr, ⊎_elim, ℕ, ◌<◌, List, [], ◌∷◌, Bool, true, false, if◌then◌else◌, Option, None, Some, refl, sym, ◌∙◌, ap, subst, arith}
 use Rattle.gl_outside.specs.Disk.{Image, DiskState, After, IsDurable, LeavesOnly}
-use Rattle.gl_outside.proofs.Moments.{at_end, started, then as joined, weaker}
+use Rattle.gl_outside.proofs.Moments.{at_end, then as joined, weaker}
 use Rattle.gl_gatelog.specs.declared.kind.Log.{Log}
 use Rattle.gl_gatelog.specs.declared.kind.Log.TheVariants.{Journal, Index}
 use Rattle.gl_gatelog.specs.Batch.{Batch}
 use Rattle.gl_gatelog.specs.Gate.{AllWait, IsClosed, Waits}
-use Rattle.gl_gatelog.specs.Log.{Holds, LogAlone, Place, area_of, begin, last_segment}
-use Rattle.gl_gatelog.specs.Progress.{OpeningView, ReadBehind, HasRead, HasEnded, IsAtHand, IsUnbegun, IsEmptyBeyond, finished}
+use Rattle.gl_gatelog.specs.Log.{LogAlone, Place, area_of, begin}
+use Rattle.gl_gatelog.specs.Progress.{OpeningView, HasRead, HasEnded, IsUnbegun, IsEmptyBeyond, finished}
 use Rattle.gl_gatelog.specs.Stand.{IsBegun, IsSameBut, LeftByOpening, StandsOn}
 use Rattle.gl_gatelog.specs.View.{GateView, begun}
 use Rattle.gl_gatelog.proofs.Apart.{OnlyIn, other_area, other_log, other_stands}
@@ -17,7 +16,7 @@ use Rattle.gl_gatelog.proofs.Steps.{shut_or_none}
 use Rattle.gl_gatelog.proofs.TakenUp.{holds_same, taken_up}
 use Rattle.gl_node.specs.Moments.{OnlyInLogs}
 use Rattle.gl_node.specs.Opening.{BothStand, LogStands}
-use Rattle.gl_node.specs.Standing.{EndsThere, LogShows, RecordsSize}
+use Rattle.gl_node.specs.Standing.{EndsThere, LogShows}
 
 -- in each image a log that was read stands as it was read
 module _ (v : OpeningView) (b : List Batch) (d : DiskState) where

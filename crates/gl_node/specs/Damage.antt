@@ -1,5 +1,5 @@
 -- Which store is damaged, and where: at the first unlawful batch of a log, the journal looked at first.
-use Rattle.std.specs.Prelude.{◌≡◌, ◌⊎◌, ℕ, ◌≤◌, List, [], ◌∷◌, ◌++◌, length, map, Option}
+use Rattle.std.specs.Prelude.{◌≡◌, ◌⊎◌, ℕ, ◌≤◌, List, ◌∷◌, ◌++◌, length, map, Option}
 use Rattle.std.specs.List.{All}
 use Rattle.gl_outside.specs.Disk.{Image}
 use Rattle.gl_gatelog.specs.declared.kind.Log.{Log}

@@ -1,5 +1,5 @@
 -- What a crash leaves of a store while a node works on it.
-use Rattle.std.specs.Prelude.{◌≢◌, ◌≡◌, ℕ, ◌≤◌, List, length, take}
+use Rattle.std.specs.Prelude.{◌≢◌, ◌≡◌, ◌⊎◌, ℕ, ◌≤◌, List, length, take}
 use Rattle.gl_outside.specs.Disk.{Image, DiskState, After}
 use Rattle.gl_gatelog.specs.declared.kind.Log.TheVariants.{Journal, Index}
 use Rattle.gl_gatelog.specs.Log.{area_of, last_segment}
@@ -20,3 +20,7 @@ pub record AfterSome (s : State) (events : List Event) (old new : Image) : Type 
 -- what a crash at any moment of a call with these events leaves
 abbrev pub LeftBy : State → List Event → DiskState → Image → Type 0
 LeftBy s events disk = After disk (AfterSome s events)
+
+-- what a crash leaves at any moment from an opening on: what it might leave before, or the state after some of the first of these events
+abbrev pub LeftSince : State → List Event → DiskState → Image → Type 0
+LeftSince s events disk c = disk.may_leave c ⊎ LeftBy s events disk c

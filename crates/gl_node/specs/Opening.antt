@@ -12,14 +12,15 @@ use Rattle.gl_node.specs.Standing.{LogShows, EndsThere, RecordsSize}
 use Rattle.gl_node.specs.declared.fault.OpenFault.{OpenFault}
 use Rattle.gl_node.specs.declared.fault.OpenFault.TheVariants.{Damaged, DiskFault, OutOfMemory}
 
--- what a reader says of its log: which one it is, its limit, and how many records it has read
-pub record IsOf (log : Log) (limit count : ℕ) (v : OpeningView) : Type 0 where
+-- what a reader says of its log: which one it is, the segment size that was asked for, its limit, and how many records it has read
+pub record IsOf (log : Log) (segment limit count : ℕ) (v : OpeningView) : Type 0 where
   pub log_is : v.log.log ≡ log
   pub limit_is : v.log.limit ≡ limit
   pub running : v.log.stopped ≡ false
   pub count_is : length v.log.places ≡ count
-  -- a log without a begin batch has none
+  -- a log without a begin batch has none, and its segments will be of the size that was asked for
   pub fresh : v.has_begin ≡ false → count ≡ 0
+  pub sized : v.has_begin ≡ false → v.log.segment_size ≡ segment
 
 -- the log was read to its end, and these are its records
 pub record HasAll (v : OpeningView) (records : List (List ℕ)) (disk : DiskState) : Type 0 where

@@ -1,10 +1,10 @@
 -- What an image shows, and which store is damaged.
-use Rattle.std.specs.Prelude.{◌≡◌, ◌≢◌, ℕ, ◌<◌, ◌≤◌, ◌^◌, ◌∷◌, List, [], length, map, take, slice_get, Option, None, Some, IsTrue, ⊤}
+use Rattle.std.specs.Prelude.{◌≡◌, ℕ, ◌<◌, ◌≤◌, ◌^◌, ◌∷◌, List, [], length, map, take, slice_get, Option, None, Some, IsTrue, ⊤}
 use Rattle.std.specs.List.{All}
-use Rattle.gl_outside.specs.Disk.{Image, DiskState, IsUnchanged}
+use Rattle.gl_outside.specs.Disk.{Image, DiskState}
 use Rattle.gl_gatelog.specs.declared.kind.Log.{Log}
 use Rattle.gl_gatelog.specs.declared.kind.Log.TheVariants.{Journal, Index}
-use Rattle.gl_gatelog.specs.Batch.{Batch, size}
+use Rattle.gl_gatelog.specs.Batch.{Batch}
 use Rattle.gl_gatelog.specs.Log.{LogIs, area_of, begin, bytes_of, log_end, last_segment, records_of}
 use Rattle.gl_gatelog.specs.Stand.{IsFresh}
 use Rattle.gl_fields.specs.declared.entry.Entry.{Entry}
@@ -104,29 +104,3 @@ pub record IsStore (disk : DiskState) (journal : List Entry) (found : List Outco
   pub shows : Shows disk.reads journal found
   pub journal_alone : IsAlone Journal shows.journal_segment shows.journal_batches disk
   pub index_alone : IsAlone Index shows.index_segment shows.index_batches disk
-
--- what stands at the opening of an empty store: both logs with their begin batch alone
-abbrev pub empty_base : Options → Base
-empty_base options = record {
-  journal = [];
-  found = [];
-  journal_bytes = size (begin Journal options.segment);
-  index_bytes = size (begin Index options.segment);
-  journal_limit = options.journal_limit;
-  index_limit = options.index_limit;
-  journal_segment = options.segment;
-  index_segment = options.segment;
-}
-
--- A log whose first area holds more than a lone gate can't be opened yet, and its store counts as damaged at the head of that log; the journal is looked at first.
-abbrev pub IsUsed : Log → Image → Type 0
-IsUsed log image = 1 < length (image (area_of log 0))
-
-abbrev pub IsDamaged : Image → Log → ℕ → ℕ → Type 0
-IsDamaged image Journal area at = IsUsed Journal image × (area ≡ area_of Journal 0) × (at ≡ 0)
-IsDamaged image Index area at = (IsUsed Journal image → ⊥) × IsUsed Index image × (area ≡ area_of Index 0) × (at ≡ 0)
-
--- What opening leaves of a damaged store. Of a damaged journal nothing changes; before a damaged index log is looked at, the journal is begun.
-abbrev pub IsLeft : Log → DiskState → DiskState → Type 0
-IsLeft Journal old new = IsUnchanged old new
-IsLeft Index old new = (b : ℕ) → b ≢ area_of Journal 0 → new.reads b ≡ old.reads b

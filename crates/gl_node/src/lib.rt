@@ -18,7 +18,6 @@ mod fault;
 mod law;
 mod mark;
 mod node;
-mod opening;
 mod processing;
 mod reading;
 mod resuming;

@@ -1,24 +1,27 @@
 // The node: two logs on a disk, and what is kept of them in memory.
-ghost use Rattle.std.specs.Prelude.{◌≡◌, ◌⊎◌, ◌<◌, ◌≤◌, ℕ, length, Some, None, IfOk, IfErr, OnOk, OnErr, IsErrOf, MatchResult, slice_get};
+ghost use Rattle.std.specs.Prelude.{◌≡◌, ◌⊎◌, ◌<◌, ◌≤◌, ℕ, List, [], length, Some, None, IfOk, IfErr, OnOk, OnErr, IsErrOf, MatchResult, slice_get};
 ghost use Rattle.std.specs.Option.{option_copied};
 ghost use Rattle.gl_base.specs.Counts.{HasCause};
-ghost use Rattle.gl_outside.specs.Disk.{Image, Tells, LeavesOnly};
+ghost use Rattle.gl_outside.specs.Disk.{Image, IsUnchanged, Tells, LeavesOnly};
 ghost use Rattle.gl_gatelog.specs.declared.kind.Log.{Log};
-ghost use Rattle.gl_gatelog.specs.Log.{area_of};
-ghost use Rattle.gl_gatelog.specs.Stand.{IsEmptyBehind};
+ghost use Rattle.gl_fields.specs.declared.entry.Entry.{Entry};
+ghost use Rattle.gl_fields.specs.declared.entry.Outcome.{Outcome};
+ghost use Rattle.gl_fields.specs.Entries.{version_after};
 ghost use Rattle.gl_node.specs.Arrivals.{arrival_of, arrival_events};
 ghost use Rattle.gl_node.specs.Calls.{HasNodeCause};
-ghost use Rattle.gl_node.specs.Moments.{LeftBy};
+ghost use Rattle.gl_node.specs.Moments.{LeftBy, LeftSince};
 ghost use Rattle.gl_node.specs.Node.{IsRunning, IsStoppedAt, Keeps, NodeOn, NodeReady};
-ghost use Rattle.gl_node.specs.Standing.{AreOptions, IsDamaged, IsLeft, StandsFor, empty_base};
-ghost use Rattle.gl_node.specs.State.{State, commit_count, opened, outcomes, state_after};
+ghost use Rattle.gl_node.specs.Damage.{IsDamaged};
+ghost use Rattle.gl_node.specs.Standing.{AreOptions, IsStore, Shows, StandsFor, base_of};
+ghost use Rattle.gl_node.specs.State.{Base, State, commit_count, opened, outcomes, state_after};
 
 use crate::answer::{Arrival, Claimed, Finished};
 use crate::config::Config;
 use crate::entering::message_of;
 use crate::fault::{NodeFault, OpenFault};
 use crate::mark::Claim;
-use crate::opening::open_log;
+use crate::reading::{read_index, read_journal};
+use crate::resuming::take_up;
 use crate::work::Work;
 use gl_fields::{Entry, Outcome};
 use gl_gatelog::{GateLog, Log};
@@ -58,53 +61,65 @@ pub struct Node {
 }
 
 impl Node {
-    /// Opens an empty store: begins both logs, the journal first.
+    /// Opens a store: reads the journal and then the index log, each to its end, and takes both up there; a log
+    /// that has no batch is begun. Nothing is written before both were read.
     ///
-    /// `Damaged` comes exactly where the first area of a log holds more than one byte, the journal
-    /// looked at first: a store that holds something can't be opened yet. After an error nothing is
-    /// lost that the disk held.
+    /// `Damaged` comes exactly where a batch of a log is unlawful, with the place of the first such batch, the journal
+    /// looked at first; such a store is left as it is. Beside it opening refuses for a fault of the disk and for want of memory
+    /// alone, and after an error nothing is lost that the disk held.
     pub fn open<D: Disk>(alloc: Global, disk: &mut D, options: Options) -> Result<Node, OpenFault>
         requires { AreOptions options }
-        // Whatever the disk tells, the node keeps the state of an empty store.
-        ensures kept { IfOk result (λ node. Keeps node (opened (empty_base options)) × IsRunning node) }
+        // Whatever the disk tells, the node keeps what stood at some opening, and nothing more.
+        ensures kept { IfOk result (λ node. IsRunning node × ((base : Base) × Keeps node (opened base))) }
+        // It is what the disk shows.
+        ensures opened { Tells (D.state disk.old) → (journal : List Entry) (found : List Outcome) (shown : Shows (D.state disk.old).reads journal found)
+            → IfOk result (λ node. Keeps node (opened (base_of options (D.state disk.old).reads journal found shown))) }
+        ensures shown { Tells (D.state disk.old) → OnOk result ((journal : List Entry) × (found : List Outcome) × Shows (D.state disk.old).reads journal found) }
         ensures ready { Tells (D.state disk.old) → IfOk result (λ node. NodeReady node (D.state disk.new)) }
-        // It stands on the disk, where all areas behind the first of each log are empty.
-        ensures stands { Tells (D.state disk.old) → IsEmptyBehind Log.Journal (D.state disk.old) → IsEmptyBehind Log.Index (D.state disk.old)
-            → IfOk result (λ node. NodeOn node (D.state disk.new)) }
+        // Where nothing stands behind the ends of its logs, the node stands on the disk.
+        ensures stands { Tells (D.state disk.old) → (journal : List Entry) (found : List Outcome) → IsStore (D.state disk.old) journal found → IfOk result (λ node. NodeOn node (D.state disk.new)) }
         ensures damaged { Tells (D.state disk.old) → (log : Log) (area at : ℕ) → IsErrOf result (OpenFault.Damaged log area at) → IsDamaged (D.state disk.old).reads log area at }
-        // A damaged store isn't opened.
+        // A damaged store isn't opened, and is left as it is.
         ensures refused { Tells (D.state disk.old) → (log : Log) (area at : ℕ) → IsDamaged (D.state disk.old).reads log area at
             → MatchResult result (λ _. ⊥) (λ e. (e ≡ OpenFault.Damaged log area at) ⊎ (e ≡ OpenFault.DiskFault) ⊎ (e ≡ OpenFault.OutOfMemory)) }
-        ensures left { Tells (D.state disk.old) → (log : Log) (area at : ℕ) → IsDamaged (D.state disk.old).reads log area at → IsLeft log (D.state disk.old) (D.state disk.new) }
-        ensures head { (log : Log) (area at : ℕ) → IsErrOf result (OpenFault.Damaged log area at) → (area ≡ area_of log 0) × (at ≡ 0) }
+        ensures left { Tells (D.state disk.old) → (log : Log) (area at : ℕ) → IsDamaged (D.state disk.old).reads log area at → IsUnchanged (D.state disk.old) (D.state disk.new) }
+        // A crash at any moment leaves what it might leave before, or a store that shows the same.
+        ensures any_moment { Tells (D.state disk.old) → (journal : List Entry) (found : List Outcome) (store : IsStore (D.state disk.old) journal found)
+            → LeavesOnly (D.state disk.old) (D.state disk.new) (LeftSince (opened (base_of options (D.state disk.old).reads journal found store.shows)) [] (D.state disk.old)) }
+        // However it ends: nothing is changed, or each image that a crash may leave then stands for what was shown.
+        ensures at_exit { Tells (D.state disk.old) → (journal : List Entry) (found : List Outcome) (store : IsStore (D.state disk.old) journal found)
+            → IsUnchanged (D.state disk.old) (D.state disk.new)
+            ⊎ ((c : Image) → (D.state disk.new).may_leave c → StandsFor c (opened (base_of options (D.state disk.old).reads journal found store.shows))) }
         ensures faults { HasCause OpenFault.DiskFault (D.faults disk.old) (D.faults disk.new) result }
         ensures tells { (D.state disk.new).tells ≡ (D.state disk.old).tells }
     {
         let config = Config::initial(alloc)?;
-        let journal = open_log(
+        let (journal, entries) = read_journal(
             alloc,
             disk,
-            Log::Journal,
+            &config,
             options.segment,
             options.journal_limit,
         )?;
-        let index = open_log(
+        let (index, outcomes) = read_index(
             alloc,
             disk,
-            Log::Index,
+            entries.len(),
             options.segment,
             options.index_limit,
         )?;
+        let (journal, index) = take_up(disk, journal, index)?;
+        let next = outcomes.len() as u64;
         Ok(Node {
             alloc,
             journal,
             index,
             config,
-            entries: Vec::new(alloc),
-            outcomes: Vec::new(alloc),
+            entries,
+            outcomes,
             held: Vec::new(alloc),
             waiting: Vec::new(alloc),
-            next: 0,
+            next,
             stopped: None,
         })
     }
@@ -171,6 +186,13 @@ impl Node {
         ensures { (s : State) → Keeps self.now s → result ≡ length s.journal }
     {
         self.entries.len() as u64
+    }
+
+    /// The version of the configuration: how many commands the journal has.
+    pub fn version(&self) -> u64
+        ensures { (s : State) → Keeps self.now s → result ≡ version_after s.journal }
+    {
+        self.config.version
     }
 
     /// How many positions are committed: all below this one.

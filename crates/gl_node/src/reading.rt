@@ -117,7 +117,7 @@ pub fn read_journal<D: Disk>(
     requires least { 4096 ≤ segment }
     requires most { segment ≤ 2 ^ 30 }
     requires config { config.now ≡ initial_config }
-    ensures value { IfOk result (λ r. IsOf Log.Journal limit (length r.1.items) r.0 × IsLawful r.1.items) }
+    ensures value { IfOk result (λ r. IsOf Log.Journal segment limit (length r.1.items) r.0 × IsLawful r.1.items) }
     ensures read { Tells (D.state disk.old) → IfOk result (λ r. HasAll r.0 (map entry_bytes r.1.items) (D.state disk.new)) }
     ensures damaged { Tells (D.state disk.old) → (log : Log) (area at : ℕ) → IsErrOf result (OpenFault.Damaged log area at) → (log ≡ Log.Journal) × UnlawfulAt Log.Journal (D.state disk.old).reads AreEntries area at }
     ensures unchanged { Tells (D.state disk.old) → IsUnchanged (D.state disk.old) (D.state disk.new) }
@@ -158,7 +158,7 @@ pub fn read_index<D: Disk>(
 ) -> Result<(Opening, Vec<Outcome>), OpenFault>
     requires least { 4096 ≤ segment }
     requires most { segment ≤ 2 ^ 30 }
-    ensures value { IfOk result (λ r. IsOf Log.Index limit (length r.1.items) r.0 × All IsOutcome r.1.items × (length r.1.items ≤ entries)) }
+    ensures value { IfOk result (λ r. IsOf Log.Index segment limit (length r.1.items) r.0 × All IsOutcome r.1.items × (length r.1.items ≤ entries)) }
     ensures read { Tells (D.state disk.old) → IfOk result (λ r. HasAll r.0 (map outcome_bytes r.1.items) (D.state disk.new)) }
     ensures damaged { Tells (D.state disk.old) → (log : Log) (area at : ℕ) → IsErrOf result (OpenFault.Damaged log area at)
         → (log ≡ Log.Index) × UnlawfulAt Log.Index (D.state disk.old).reads (AreOutcomes entries) area at }

@@ -5,4 +5,10 @@
 #![tactic(auto)]
 
 #[cfg(test)]
+mod crash_tests;
+#[cfg(test)]
+mod opening_tests;
+#[cfg(test)]
+mod playing;
+#[cfg(test)]
 mod tests;

@@ -1,8 +1,9 @@
 // Scripts over objects in memory.
+use crate::playing::{FIRST, FIRST_OUTPUT, SESSION};
 use gl_base::Text;
 use gl_cli::{Status, run_command};
-use gl_node::{Arrival, Claimed, Finished, Log, Node, Options, stage_range};
-use gl_outside::{Disk, ListShop, MemoryDisk, MemorySink, MemorySource};
+use gl_node::{Arrival, Claimed, Finished, Node, Options, stage_range};
+use gl_outside::{ListShop, MemoryDisk, MemorySink, MemorySource};
 use std::alloc::{AllocError, Global};
 use std::test::Fail;
 
@@ -53,28 +54,6 @@ fn play(
         index: Vec::from_slice(alloc, disk.bytes(1))?,
     })
 }
-
-/// Runs the first script on a disk that is there already.
-fn play_on(
-    alloc: Global,
-    disk: &mut MemoryDisk,
-    sink: &mut MemorySink,
-) -> Result<Status, AllocError> {
-    let words = [
-        Text::from_str(alloc, "session")?,
-        Text::from_str(alloc, "x")?,
-    ];
-    let mut shop = ListShop::new(alloc, Vec::new(alloc));
-    let mut source = MemorySource::new(FIRST, 4096, &[]);
-    Ok(run_command(alloc, &words, disk, &mut shop, &mut source, sink))
-}
-
-const SESSION: [&str; 2] = ["session", "x"];
-
-const FIRST: &[u8] = b"at 1000\nudp raw 10.0.0.7 hello\nclaim 0 10\nfinish 0\nlist\n";
-
-const FIRST_OUTPUT: &[u8] =
-    b"journalled 0\nclaimed 0 0 1\ncommitted 1\njournal 1 committed 1\n0 stored 000000000000000000000001 message=hello&source=10.0.0.7&timestamp:1000\ndone 1 1\n";
 
 // The begin batch of a journal with segments of 67,108,864 bytes, and a shut gate behind it.
 const BEGUN_JOURNAL: &[u8] =
@@ -148,11 +127,12 @@ fn other_answers_and_ends(rt: HostRuntime) -> Result<(), Fail> {
 
 #[test]
 fn words_that_are_no_command(rt: HostRuntime) -> Result<(), Fail> {
-    let cases: [&[&str]; 5] = [
+    let cases: [&[&str]; 6] = [
         &[],
         &["session"],
         &["session", "-x"],
-        &["check", "x"],
+        &["check", "-x"],
+        &["checks", "x"],
         &["session", "x", "y"],
     ];
     for words in cases {
@@ -176,15 +156,6 @@ fn the_first_fault_ends_the_run(rt: HostRuntime) -> Result<(), Fail> {
     let sink = Failing { sink: &[1], ..NONE };
     let played = play(alloc, &SESSION, FIRST, 4096, sink)?;
     assert_eq!(rt; played.status, Status::SinkFault);
-    for call in 1..25 {
-        let failing = [call];
-        let disk = Failing {
-            disk: &failing,
-            ..NONE
-        };
-        let played = play(alloc, &SESSION, FIRST, 4096, disk)?;
-        assert_eq!(rt; played.status, Status::DiskFault, "call {call}");
-    }
     Ok(())
 }
 
@@ -261,51 +232,6 @@ fn a_full_index_log_says_so(rt: HostRuntime) -> Result<(), Fail> {
         }
     );
     assert_eq!(rt; node.committed(), 0);
-    Ok(())
-}
-
-// A store that holds something is not begun anew, and nothing of it is changed.
-#[test]
-fn a_store_that_is_there_is_left_as_it_is(rt: HostRuntime) -> Result<(), Fail> {
-    let alloc = rt.alloc();
-    let mut disk = MemoryDisk::new(alloc, Vec::new(alloc))?;
-    disk.write_at(0, 0, BEGUN_JOURNAL)?;
-    disk.write_at(1, 0, BEGUN_INDEX)?;
-    let mut sink = MemorySink::new(alloc, 4096, Vec::new(alloc));
-    let status = play_on(alloc, &mut disk, &mut sink)?;
-    assert_eq!(rt;
-        status,
-        Status::Damaged {
-            log: Log::Journal,
-            area: 0,
-            at: 0
-        }
-    );
-    assert_eq!(rt; sink.bytes().len(), 0);
-    assert_eq!(rt; disk.bytes(0), BEGUN_JOURNAL);
-    assert_eq!(rt; disk.bytes(1), BEGUN_INDEX);
-    Ok(())
-}
-
-// An index log without its journal: the journal is begun before the index log is looked at.
-#[test]
-fn an_index_log_that_is_there_is_left_as_it_is(rt: HostRuntime) -> Result<(), Fail> {
-    let alloc = rt.alloc();
-    let mut disk = MemoryDisk::new(alloc, Vec::new(alloc))?;
-    disk.write_at(1, 0, BEGUN_INDEX)?;
-    let mut sink = MemorySink::new(alloc, 4096, Vec::new(alloc));
-    let status = play_on(alloc, &mut disk, &mut sink)?;
-    assert_eq!(rt;
-        status,
-        Status::Damaged {
-            log: Log::Index,
-            area: 1,
-            at: 0
-        }
-    );
-    assert_eq!(rt; sink.bytes().len(), 0);
-    assert_eq!(rt; disk.bytes(0), BEGUN_JOURNAL);
-    assert_eq!(rt; disk.bytes(1), BEGUN_INDEX);
     Ok(())
 }
 

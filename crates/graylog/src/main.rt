@@ -28,7 +28,9 @@ fn words(rt: &HostRuntime) -> Result<Vec<Text>, Status> {
 /// The folder of the store that the words name; none where they name no store.
 fn folder(alloc: Global, words: &[Text]) -> Result<String, AllocError> {
     match command_of(alloc, words)? {
-        Command::Session { store, .. } => String::from_str(alloc, store.as_str()),
+        Command::Session { store, .. } | Command::Check { store, .. } => {
+            String::from_str(alloc, store.as_str())
+        }
         Command::Usage => Ok(String::new(alloc)),
     }
 }

@@ -3,7 +3,7 @@ use Rattle.gl_cli.specs.declared.status.Status.TheVariants.{SinkFault, DiskFault
 use Rattle.gl_cli.proofs.Desks.{ok_is_no_error}
 use Rattle.std.proofs.Common.{Bool, IsTrue, arith, refl, sym, ap, subst, ◌∙◌, ◌<◌}
 use Rattle.std.proofs.lemmas.Bool.{false≢true}
-use Rattle.gl_node.specs.State.{state_after}
+use Rattle.gl_node.specs.State.{opened, state_after}
 use Rattle.gl_cli.specs.Desk.{DeskKeeps}
 use Rattle.gl_cli.specs.Runs.{turn_events}
 use Rattle.gl_cli.specs.Script.{line_of}
@@ -11,7 +11,8 @@ use Rattle.gl_cli.specs.Sessions.{turn_at}
 use Rattle.gl_cli.proofs.Causes.{causes_line, line_other, sink_other, source_other}
 use Rattle.gl_cli.proofs.Exits.{ended_other, ended_long, ended_bad, ended_cut, ended_done, ended_done_cut, ended_shows, shown_long, shown_bad, unanswered, running_init, running_next, read_first, reading_more, tells_end, tells_long, tells_other}
 use Rattle.gl_cli.proofs.Fits.{line_fits, moment_fits}
-use Rattle.gl_cli.proofs.Sessions.{does_line, cuts_line}
+use Rattle.gl_cli.proofs.Moments.{leaves_first, leaves_more, shown_between, shown_at_end, shown_in_line, some_whole}
+use Rattle.gl_cli.proofs.Sessions.{does_line, cuts_line, during_line, cut_line}
 use Rattle.gl_cli.proofs.session.session.Goals as goal
 
 pub lines-init : goal.lines-init
@@ -24,6 +25,8 @@ lines-init g c = record {
   moment_fits = omega arith;
   ready = c.requires.ready;
   stands = λ tells stands. stands;
+  leaves = λ tells on base h. leaves_first (g.S.Source.left c.args.source.now) base (g.D.Disk.state c.args.disk.now)
+      (λ image left. c.law_images_show_the_state.ensures (opened base) h.node on image left);
   tells = refl;
   source = refl;
   sink = refl;
@@ -77,6 +80,13 @@ lines-preserved g c = record {
       c.moment_with-moment.ensures;
   ready = λ tells. c.in-Ok.ensures.ready (subst (λ (b : Bool). IsTrue b) (sym c.lines.invariant.tells) tells);
   stands = λ tells on. c.in-Ok.ensures.stands (subst (λ (b : Bool). IsTrue b) (sym c.lines.invariant.tells) tells) (c.lines.invariant.stands tells on);
+  leaves = λ tells on base h. leaves_more _ _ _ _ (DeskKeeps c.lines.desk) _ _ _ _ (c.lines.invariant.running base h) _ _ c.in-Ok-Line.text c.in-Ok-Some.line
+      (rw c.in-Ok-Line.field-0-is at c.in-Ok-Line.ensures.given)
+      (ap line_of (sym c.as_slice.ensures) ∙ sym c.in-Ok-Some.ensures ∙ c.in-Ok-Some.field-0-is)
+      (g.D.Disk.state c.args.disk.now) (g.D.Disk.state c.lines.disk) (g.D.Disk.state c.answer_line.new.disk)
+      (during_line c.lines.desk c.lines.moment c.in-Ok-Some.line (g.D.Disk.state c.lines.disk) (g.D.Disk.state c.answer_line.new.disk) c.answer_line.ensures.any_moment
+      (subst (λ (b : Bool). IsTrue b) (sym c.lines.invariant.tells) tells) (c.lines.invariant.stands tells on))
+      (c.lines.invariant.leaves tells on base h);
   tells = c.answer_line.ensures.tells ∙ c.lines.invariant.tells;
   source = c.in-Ok-Line.ensures.cause.steady (ok_is_no_error c.in-Ok-Line.field-0 Failed) ∙ c.lines.invariant.source;
   sink = c.in-Ok.ensures.sink_cause.steady (ok_is_no_error c.in-Ok.field-0 SinkFault) ∙ c.lines.invariant.sink;
@@ -119,20 +129,20 @@ pub returns-clause-shows : goal.returns-clause-shows
 returns-clause-shows g c = λ tells on _ base h.
     ended_shows _ _ _ _ (DeskKeeps c.lines.desk) _ _ _ _ (c.lines.invariant.running base h) _ _
     (rw c.in-Ok-End.field-0-is at c.in-Ok-End.ensures.given) (g.D.Disk.state c.lines.disk)
-    (λ s kept image left. c.law_images_show_the_state-in-Ok-write_done.ensures s kept.node (c.lines.invariant.stands tells on) image left)
+    (λ s kept image left. c.law_images_show_the_state-in-lines.ensures s kept.node (c.lines.invariant.stands tells on) image left)
 
 pub returns-in-Ok-TooLong-clause-shows : goal.returns-in-Ok-TooLong-clause-shows
 returns-in-Ok-TooLong-clause-shows g c = λ tells on _ base h.
     shown_long _ _ _ _ (DeskKeeps c.lines.desk) _ _ _ _ (c.lines.invariant.running base h) _ _
     (rw c.in-Ok-TooLong.field-0-is at c.in-Ok-TooLong.ensures.given) (g.D.Disk.state c.lines.disk)
-    (λ s kept image left. c.law_images_show_the_state.ensures s kept.node (c.lines.invariant.stands tells on) image left)
+    (λ s kept image left. c.law_images_show_the_state-in-lines.ensures s kept.node (c.lines.invariant.stands tells on) image left)
 
 pub returns-in-Ok-None-clause-shows : goal.returns-in-Ok-None-clause-shows
 returns-in-Ok-None-clause-shows g c = λ tells on _ base h.
     shown_bad _ _ _ _ (DeskKeeps c.lines.desk) _ _ _ _ (c.lines.invariant.running base h) _ _ c.in-Ok-Line.text
     (rw c.in-Ok-Line.field-0-is at c.in-Ok-Line.ensures.given)
     (ap line_of (sym c.as_slice.ensures) ∙ sym c.in-Ok-None.ensures ∙ c.in-Ok-None.field-0-is) (g.D.Disk.state c.lines.disk)
-    (λ s kept image left. c.law_images_show_the_state-in-Ok-None.ensures s kept.node (c.lines.invariant.stands tells on) image left)
+    (λ s kept image left. c.law_images_show_the_state-in-lines.ensures s kept.node (c.lines.invariant.stands tells on) image left)
 
 pub returns-in-Err-clause-shows : goal.returns-in-Err-clause-shows
 returns-in-Err-clause-shows g c = λ tells on all. absurd (unanswered _ (source_other c.in-Err.fault _ c.source_status.ensures) all)
@@ -142,3 +152,46 @@ returns-in-Err-answer_line-clause-shows g c = λ tells on all. absurd (unanswere
 
 pub returns-in-Err-write_done-clause-shows : goal.returns-in-Err-write_done-clause-shows
 returns-in-Err-write_done-clause-shows g c = λ tells on all. absurd (unanswered c.in-Err-write_done.status (sink_other _ c.in-Err-write_done.ensures.kind) all)
+
+pub returns-in-Err-answer_line-clause-any_moment : goal.returns-in-Err-answer_line-clause-any_moment
+returns-in-Err-answer_line-clause-any_moment g c = λ tells on base h. leaves_more _ _ _ _ (DeskKeeps c.lines.desk) _ _ _ _ (c.lines.invariant.running base h) _ _ c.in-Ok-Line.text c.in-Ok-Some.line
+    (rw c.in-Ok-Line.field-0-is at c.in-Ok-Line.ensures.given)
+    (ap line_of (sym c.as_slice.ensures) ∙ sym c.in-Ok-Some.ensures ∙ c.in-Ok-Some.field-0-is)
+    (g.D.Disk.state c.args.disk.now) (g.D.Disk.state c.lines.disk) (g.D.Disk.state c.answer_line.new.disk)
+    (during_line c.lines.desk c.lines.moment c.in-Ok-Some.line (g.D.Disk.state c.lines.disk) (g.D.Disk.state c.answer_line.new.disk) c.answer_line.ensures.any_moment
+    (subst (λ (b : Bool). IsTrue b) (sym c.lines.invariant.tells) tells) (c.lines.invariant.stands tells on))
+    (c.lines.invariant.leaves tells on base h)
+
+pub returns-in-Err-answer_line-clause-at_exit : goal.returns-in-Err-answer_line-clause-at_exit
+returns-in-Err-answer_line-clause-at_exit g c = λ tells on base h. shown_in_line _ _ _ _ (DeskKeeps c.lines.desk) _ _ _ _ (c.lines.invariant.running base h) _ _ _ c.in-Ok-Line.text c.in-Ok-Some.line
+    (rw c.in-Ok-Line.field-0-is at c.in-Ok-Line.ensures.given)
+    (ap line_of (sym c.as_slice.ensures) ∙ sym c.in-Ok-Some.ensures ∙ c.in-Ok-Some.field-0-is)
+    (g.D.Disk.state c.answer_line.new.disk)
+    (cut_line c.lines.desk _ _ c.lines.moment c.in-Ok-Some.line (g.D.Disk.state c.lines.disk) (g.D.Disk.state c.answer_line.new.disk) c.in-Err-answer_line.ensures.cut_leaves
+    (subst (λ (b : Bool). IsTrue b) (sym c.lines.invariant.tells) tells) (c.lines.invariant.stands tells on))
+
+pub returns-in-Err-clause-at_exit : goal.returns-in-Err-clause-at_exit
+returns-in-Err-clause-at_exit g c = λ tells on base h. shown_between _ _ _ _ (DeskKeeps c.lines.desk) _ _ _ _ (c.lines.invariant.running base h) (g.D.Disk.state c.lines.disk)
+    (λ s kept image left. c.law_images_show_the_state-in-lines.ensures s kept.node (c.lines.invariant.stands tells on) image left)
+
+pub returns-in-Ok-TooLong-clause-at_exit : goal.returns-in-Ok-TooLong-clause-at_exit
+returns-in-Ok-TooLong-clause-at_exit g c = λ tells on base h. shown_between _ _ _ _ (DeskKeeps c.lines.desk) _ _ _ _ (c.lines.invariant.running base h) (g.D.Disk.state c.lines.disk)
+    (λ s kept image left. c.law_images_show_the_state-in-lines.ensures s kept.node (c.lines.invariant.stands tells on) image left)
+
+pub returns-in-Err-line_of-clause-at_exit : goal.returns-in-Err-line_of-clause-at_exit
+returns-in-Err-line_of-clause-at_exit g c = λ tells on base h. shown_between _ _ _ _ (DeskKeeps c.lines.desk) _ _ _ _ (c.lines.invariant.running base h) (g.D.Disk.state c.lines.disk)
+    (λ s kept image left. c.law_images_show_the_state-in-lines.ensures s kept.node (c.lines.invariant.stands tells on) image left)
+
+pub returns-in-Ok-None-clause-at_exit : goal.returns-in-Ok-None-clause-at_exit
+returns-in-Ok-None-clause-at_exit g c = λ tells on base h. shown_between _ _ _ _ (DeskKeeps c.lines.desk) _ _ _ _ (c.lines.invariant.running base h) (g.D.Disk.state c.lines.disk)
+    (λ s kept image left. c.law_images_show_the_state-in-lines.ensures s kept.node (c.lines.invariant.stands tells on) image left)
+
+pub returns-in-Err-write_done-clause-at_exit : goal.returns-in-Err-write_done-clause-at_exit
+returns-in-Err-write_done-clause-at_exit g c = λ tells on base h. shown_at_end _ _ _ _ (DeskKeeps c.lines.desk) _ _ _ _ (c.lines.invariant.running base h) _ _ _
+    (rw c.in-Ok-End.field-0-is at c.in-Ok-End.ensures.given) c.in-Err-write_done.ensures.err (g.D.Disk.state c.lines.disk)
+    (λ s kept image left. c.law_images_show_the_state-in-lines.ensures s kept.node (c.lines.invariant.stands tells on) image left)
+
+pub returns-clause-at_exit : goal.returns-clause-at_exit
+returns-clause-at_exit g c = λ tells on base h. shown_at_end _ _ _ _ (DeskKeeps c.lines.desk) _ _ _ _ (c.lines.invariant.running base h) _ _ _
+    (rw c.in-Ok-End.field-0-is at c.in-Ok-End.ensures.given) (λ s kept. some_whole _ _ _ (c.in-Ok-write_done.ensures.ok s kept)) (g.D.Disk.state c.lines.disk)
+    (λ s kept image left. c.law_images_show_the_state-in-lines.ensures s kept.node (c.lines.invariant.stands tells on) image left)

@@ -7,6 +7,7 @@ use Rattle.gl_node.specs.State.{Base, State, opened}
 use Rattle.gl_cli.specs.Desk.{DeskKeeps}
 use Rattle.gl_cli.specs.Sessions.{ReadTo}
 use Rattle.gl_cli.proofs.Exits.{Goes}
+use Rattle.gl_cli.proofs.Moments.{Leaves}
 use Rattle.gl_cli.proofs.session.session.Given as goal
 
 abbrev pub decreases-lines : goal.decreases-lines
@@ -24,6 +25,8 @@ invariant-lines g l = record {
   moment_fits : l.moment ≤ 253402300799999;
   ready : Tells (g.D.Disk.state l.fn.disk) → NodeReady l.desk.node (g.D.Disk.state l.disk);
   stands : Tells (g.D.Disk.state l.fn.disk) → NodeOn l.fn.desk.node (g.D.Disk.state l.fn.disk) → NodeOn l.desk.node (g.D.Disk.state l.disk);
+  leaves : Tells (g.D.Disk.state l.fn.disk) → NodeOn l.fn.desk.node (g.D.Disk.state l.fn.disk) → (base : Base) → DeskKeeps l.fn.desk (opened base)
+      → Leaves (g.S.Source.left l.fn.source) base (g.D.Disk.state l.fn.disk) (g.D.Disk.state l.disk);
   tells : (g.D.Disk.state l.disk).tells ≡ (g.D.Disk.state l.fn.disk).tells;
   source : g.S.Source.faults l.source ≡ g.S.Source.faults l.fn.source;
   sink : g.K.Sink.faults l.sink ≡ g.K.Sink.faults l.fn.sink;

@@ -1,11 +1,9 @@
-use Rattle.std.proofs.Common.{◌≡◌, ℕ, ◌∷◌, [], ◌++◌, List, length, map, sym, ◌∙◌, ap, subst, arith, IsTrue, Option, MatchOption, Vec, Err, Ok, true, false}
+use Rattle.std.proofs.Common.{◌≡◌, ℕ, ◌∷◌, [], ◌++◌, List, length, map, sym, ◌∙◌, ap, subst, arith, Option, MatchOption, Vec, Err, true}
 use Rattle.std.specs.declared.alloc.Global.{Global}
 use Rattle.std.specs.Bool.{⊤}
 use Rattle.std.proofs.lemmas.List.{length-map}
-use Rattle.gl_outside.specs.Disk.{Tells}
-use Rattle.gl_gatelog.specs.declared.kind.Log.TheVariants.{Journal, Index}
+use Rattle.gl_gatelog.specs.declared.kind.Log.TheVariants.{Index}
 use Rattle.gl_gatelog.specs.declared.kind.LogFault.{LogFault}
-use Rattle.gl_gatelog.specs.Batch.{Batch}
 use Rattle.gl_gatelog.specs.Log.{records_of}
 use Rattle.gl_gatelog.specs.View.{batch_of}
 use Rattle.gl_gatelog.specs.Progress.{HasRead, HasEnded, IsFurther, IsNoFurther}
@@ -75,7 +73,7 @@ loop-fault-preserved g c =
     record {
       bounded = taken.1;
       few = taken.2;
-      of_log = of_further Index c.args.limit (length c.loop-fault.outcomes.items) (length c.take_outcomes.new.outcomes.items) batch c.loop-fault.opening c.next.new.self inv.of_log has_begin further
+      of_log = of_further Index c.args.segment c.args.limit (length c.loop-fault.outcomes.items) (length c.take_outcomes.new.outcomes.items) batch c.loop-fault.opening c.next.new.self inv.of_log has_begin further
           (omega (
             arith,
             ap (λ rs. length rs) bytes,

@@ -1,4 +1,4 @@
-use Rattle.std.proofs.Common.{◌≡◌, ℕ, ◌-◌, ◌^◌, ◌≤◌, List, length, map}
+use Rattle.std.proofs.Common.{◌≡◌, ◌-◌, ◌^◌, ◌≤◌, List, length, map}
 use Rattle.gl_outside.specs.Disk.{Tells, IsUnchanged, LeavesOnly}
 use Rattle.gl_gatelog.specs.declared.kind.Log.TheVariants.{Index}
 use Rattle.gl_gatelog.specs.Batch.{Batch}
@@ -14,7 +14,7 @@ abbrev pub invariant-loop-fault : goal.invariant-loop-fault
 invariant-loop-fault g l = record {
   bounded : All IsOutcome l.outcomes.items;
   few : length l.outcomes.items ≤ l.fn.entries;
-  of_log : IsOf Index l.fn.limit (length l.outcomes.items) l.opening;
+  of_log : IsOf Index l.fn.segment l.fn.limit (length l.outcomes.items) l.opening;
   read : Tells (g.D.Disk.state l.fn.disk) → (b : List Batch) × HasRead l.opening b (g.D.Disk.state l.disk) × (records_of b ≡ map outcome_bytes l.outcomes.items);
   unchanged : Tells (g.D.Disk.state l.fn.disk) → IsUnchanged (g.D.Disk.state l.fn.disk) (g.D.Disk.state l.disk);
   only_read : Tells (g.D.Disk.state l.fn.disk) → LeavesOnly (g.D.Disk.state l.fn.disk) (g.D.Disk.state l.disk) (g.D.Disk.state l.fn.disk).may_leave;

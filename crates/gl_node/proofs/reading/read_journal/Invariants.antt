@@ -1,4 +1,4 @@
-use Rattle.std.proofs.Common.{◌≡◌, ℕ, ◌-◌, ◌^◌, List, length, map}
+use Rattle.std.proofs.Common.{◌≡◌, ◌-◌, ◌^◌, List, length, map}
 use Rattle.gl_outside.specs.Disk.{Tells, IsUnchanged, LeavesOnly}
 use Rattle.gl_gatelog.specs.declared.kind.Log.TheVariants.{Journal}
 use Rattle.gl_gatelog.specs.Batch.{Batch}
@@ -12,7 +12,7 @@ use Rattle.gl_node.proofs.reading.read_journal.Given as goal
 abbrev pub invariant-loop-fault : goal.invariant-loop-fault
 invariant-loop-fault g l = record {
   lawful : IsLawful l.entries.items;
-  of_log : IsOf Journal l.fn.limit (length l.entries.items) l.opening;
+  of_log : IsOf Journal l.fn.segment l.fn.limit (length l.entries.items) l.opening;
   read : Tells (g.D.Disk.state l.fn.disk) → (b : List Batch) × HasRead l.opening b (g.D.Disk.state l.disk) × (records_of b ≡ map entry_bytes l.entries.items);
   unchanged : Tells (g.D.Disk.state l.fn.disk) → IsUnchanged (g.D.Disk.state l.fn.disk) (g.D.Disk.state l.disk);
   only_read : Tells (g.D.Disk.state l.fn.disk) → LeavesOnly (g.D.Disk.state l.fn.disk) (g.D.Disk.state l.disk) (g.D.Disk.state l.fn.disk).may_leave;

@@ -1,4 +1,4 @@
-use Rattle.std.proofs.Common.{◌≡◌, ◌+◌, ◌++◌, ◌<◌, ap, Err, ◌∙◌, sym, subst, map, get_or, length, take, List, arith}
+use Rattle.std.proofs.Common.{◌≡◌, ◌+◌, ◌++◌, ◌<◌, ap, Err, ◌∙◌, sym, subst, map, length, take, List, arith}
 use Rattle.std.proofs.lemmas.List.{length-map}
 use Rattle.gl_gatelog.specs.View.{batch_of}
 use Rattle.gl_fields.specs.declared.entry.Entry.{Entry}

@@ -10,3 +10,9 @@ returns-clause-answer g c s kept =
           (next_entry s.journal c.args.moment c.args.input.now c.args.peer.now c.args.bytes.now) kept
           (still_running _ _ _ _ c.in_ok-arrival.arrival kept.running c.in_ok-arrival.ensures.faults) answer.1,
     )
+
+pub returns-in_err-arrival-clause-any_moment : goal.returns-in_err-arrival-clause-any_moment
+returns-in_err-arrival-clause-any_moment g c = λ tells on s kept. c.datagram.ensures.any_moment tells on s kept.node
+
+pub returns-clause-any_moment : goal.returns-clause-any_moment
+returns-clause-any_moment g c = λ tells on s kept. c.datagram.ensures.any_moment tells on s kept.node

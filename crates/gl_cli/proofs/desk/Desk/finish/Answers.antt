@@ -9,6 +9,7 @@ use Rattle.gl_cli.specs.Desk.{DeskKeeps}
 use Rattle.gl_cli.proofs.Desks.{none_held, brought, after_finish, still_running}
 use Rattle.std.proofs.lemmas.Result.{err_from_is_err_and}
 use Rattle.gl_cli.proofs.Causes.{node_cause}
+use Rattle.gl_cli.proofs.Moments.{stays}
 use Rattle.gl_cli.proofs.desk.Desk.finish.Goals as goal
 
 pub returns-in_default-clause-answer : goal.returns-in_default-clause-answer
@@ -38,3 +39,17 @@ pub returns-in_err-finished-clause-cause : goal.returns-in_err-finished-clause-c
 returns-in_err-finished-clause-cause g c =
     let p = err_from_is_err_and c.from_residual.result c.from_residual.ensures.1 in
     rw (p.1, p.2) (node_cause _ _ _ _ c.in_err-finished.field-0.0 c.requires.keeps.1.running c.in_err-finished.ensures.faults)
+
+pub returns-in_default-clause-any_moment : goal.returns-in_default-clause-any_moment
+returns-in_default-clause-any_moment g c = λ tells on s kept.
+    stays s (finish_events s c.args.worker) (g.D.Disk.state c.args.disk.now) (λ image left. c.law_images_show_the_state.ensures s kept.node on image left)
+
+pub returns-in-Err-clause-any_moment : goal.returns-in-Err-clause-any_moment
+returns-in-Err-clause-any_moment g c = λ tells on s kept.
+    stays s (finish_events s c.args.worker) (g.D.Disk.state c.args.disk.now) (λ image left. c.law_images_show_the_state.ensures s kept.node on image left)
+
+pub returns-in_err-finished-clause-any_moment : goal.returns-in_err-finished-clause-any_moment
+returns-in_err-finished-clause-any_moment g c = λ tells on s kept. c.finish.ensures.any_moment tells on s kept.node
+
+pub returns-clause-any_moment : goal.returns-clause-any_moment
+returns-clause-any_moment g c = λ tells on s kept. c.finish.ensures.any_moment tells on s kept.node

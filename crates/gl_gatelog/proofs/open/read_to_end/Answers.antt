@@ -6,7 +6,7 @@ use Rattle.gl_gatelog.specs.Batch.{Batch}
 use Rattle.gl_gatelog.specs.View.{GateView, batch_of}
 use Rattle.gl_gatelog.specs.Progress.{OpeningView, HasRead, HasEnded, IsOfOne, IsFurther, IsNoFurther}
 use Rattle.gl_gatelog.proofs.Reopening.{fault_reads, only_read_on, unchanged_on}
-use Rattle.gl_gatelog.proofs.reopen.read_to_end.Goals as goal
+use Rattle.gl_gatelog.proofs.open.read_to_end.Goals as goal
 
 still : (old new : DiskState) → new.tells ≡ old.tells → Tells old → Tells new
 still old new same tells = subst (λ (b : Bool). IsTrue b) (sym same) tells

@@ -9,7 +9,7 @@ use Rattle.gl_gatelog.specs.View.{GateView, begun}
 use Rattle.gl_gatelog.specs.Stand.{LeftByOpening}
 use Rattle.gl_gatelog.proofs.Beginning.{left_begun, begun_stands}
 use Rattle.gl_gatelog.proofs.Standing.{same_view}
-use Rattle.gl_gatelog.proofs.reopen.write_begin.Goals as goal
+use Rattle.gl_gatelog.proofs.open.write_begin.Goals as goal
 
 at_area : (step : ℕ → List ℕ → List ℕ → List ℕ → Type 0) (d : DiskState) (c : Image) (log : Log) (area : ℕ) (bytes to : List ℕ) → area ≡ area_of log 0 → bytes ≡ to
     → After d (InArea area (step 0 bytes)) c → After d (InArea (area_of log 0) (step 0 to)) c

@@ -2,7 +2,7 @@ use Rattle.std.proofs.Common.{◌≡◌, ◌-◌, ◌^◌, List}
 use Rattle.gl_outside.specs.Disk.{Tells, IsUnchanged, LeavesOnly}
 use Rattle.gl_gatelog.specs.Batch.{Batch}
 use Rattle.gl_gatelog.specs.Progress.{HasRead, IsOfOne}
-use Rattle.gl_gatelog.proofs.reopen.read_to_end.Given as goal
+use Rattle.gl_gatelog.proofs.open.read_to_end.Given as goal
 
 abbrev pub invariant-loop : goal.invariant-loop
 invariant-loop g l = record {

@@ -84,7 +84,7 @@ impl GateLog {
     /// `segment` and `limit` are in bytes. Where the log has a begin batch, the segment size that it records holds,
     /// and `segment` isn't used. `Damaged` comes exactly where an opened batch isn't lawful, with its area and the byte of its gate;
     /// such a log is left as it is. Beside it opening refuses for want of memory and for a fault of the disk alone.
-    pub fn reopen<D: Disk>(
+    pub fn open<D: Disk>(
         alloc: Global,
         disk: &mut D,
         log: Log,
