@@ -7,6 +7,10 @@ pub mod Many
 pub mod Distinct
 pub mod Peel
 pub mod Spelled
+pub mod Escapes
+pub mod Printed
+pub mod Stamps
+pub mod Printable
 pub mod Elements
 pub mod Messages
 pub mod Unique

@@ -48,7 +48,7 @@ head_same f (b ∷ bs) (suc m) h = refl
 escapes_same : (b : ℕ) (xs ys : List ℕ) → get_or xs 0 0 ≡ get_or ys 0 0 → escapes b xs ≡ escapes b ys
 escapes_same b xs ys h = ap (λ (x : ℕ). eqb b 92 && is_special x) h
 
-other_byte : (b : ℕ) (bs : List ℕ) → eqb b 34 ≡ false → eqb b 93 ≡ false → value_len false (b ∷ bs) ≡ option_map suc (value_len (escapes b bs) bs)
+pub other_byte : (b : ℕ) (bs : List ℕ) → eqb b 34 ≡ false → eqb b 93 ≡ false → value_len false (b ∷ bs) ≡ option_map suc (value_len (escapes b bs) bs)
 other_byte b bs q r = rw (q, r) refl
 
 front_step : (q r : Bool) (b : ℕ) (bs : List ℕ) (n : ℕ) → eqb b 34 ≡ q → eqb b 93 ≡ r → ((m : ℕ) → value_len (escapes b bs) bs ≡ Some m → value_len (escapes b bs) (take m bs ++ 34 ∷ []) ≡ Some m)

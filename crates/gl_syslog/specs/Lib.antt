@@ -7,3 +7,4 @@ pub mod Sections
 pub mod Data
 pub mod Reading
 pub mod Rfc5424
+pub mod Printing

@@ -12,9 +12,9 @@ use crate::unread::Unread;
 use gl_base::{Items, Text};
 use std::alloc::{AllocError, Global};
 
-const MAX_SD_NAME: usize = 32;
+pub const MAX_SD_NAME: usize = 32;
 
-fn is_sd_byte(b: u8) -> bool
+pub fn is_sd_byte(b: u8) -> bool
     ensures value { result ≡ is_sd_byte b }
 {
     (b >= 33 && b <= 126) && !(b == b'=' || b == b']' || b == b'"')
@@ -46,7 +46,7 @@ fn sd_name_at(text: &str) -> Result<(&str, &str), Unread>
     Ok(cut(text, len))
 }
 
-fn is_special(b: u8) -> bool
+pub fn is_special(b: u8) -> bool
     ensures { result ≡ is_special b }
 {
     b == b'"' || b == b'\\' || b == b']'
@@ -255,7 +255,7 @@ pub fn data_at(alloc: Global, text: &str) -> Result<(Items<Element>, &str), Unre
     elements_at(alloc, text)
 }
 
-fn has_bom(msg: &str) -> bool
+pub fn has_bom(msg: &str) -> bool
     ensures { result ≡ has_bom msg.now }
 {
     let bytes = msg.as_bytes();

@@ -6,13 +6,21 @@
 //! `read_5424` reads exactly the messages of RFC 5424 with version 1, and gives their parts. The grammar is a relation
 //! between a whole text and its parts (`specs/Rfc5424`, over `specs/Sections` and `specs/Data`); how it is read from left
 //! to right is told in `specs/Reading`. It takes time as the length of the text, times the logarithm of the number of its elements.
+//!
+//! `print_5424` prints a text exactly where some text has the parts, and that text reads back to them. Which parts these
+//! are, as one test, and which of their texts is printed, is told in `specs/Printing`.
 #![tactic(auto)]
 
 mod data;
 mod fed;
 mod frames;
 mod front;
+mod lawful;
 mod parts;
+mod print;
+mod print_data;
+#[cfg(test)]
+mod print_tests;
 mod read;
 #[cfg(test)]
 mod read_tests;
@@ -25,4 +33,5 @@ mod unread;
 pub use fed::Fed;
 pub use frames::{LineFrames, law_one_framing};
 pub use parts::{Element, Parts, Stamp};
+pub use print::print_5424;
 pub use read::read_5424;

@@ -15,7 +15,7 @@ use std::alloc::{AllocError, Global};
 use std::collections::BTreeSet;
 
 /// Whether no two elements have one id.
-fn are_distinct(alloc: Global, elements: &[Element]) -> Result<bool, AllocError>
+pub fn are_distinct(alloc: Global, elements: &[Element]) -> Result<bool, AllocError>
     ensures { IfOk result (λ b. b ≡ are_distinct (ids_of elements.now)) }
 {
     let mut seen = BTreeSet::new(alloc);

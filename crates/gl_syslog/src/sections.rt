@@ -17,7 +17,7 @@ pub const MAX_PROC_ID: usize = 128;
 
 pub const MAX_MSG_ID: usize = 32;
 
-const MAX_PRI: usize = 191;
+pub const MAX_PRI: usize = 191;
 
 /// What stands before the first space and behind it.
 pub fn split_space(text: &str) -> Result<(&str, &str), Unread>
@@ -44,7 +44,7 @@ pub fn is_digit(b: u8) -> bool
     b.is_ascii_digit()
 }
 
-fn are_digits(bytes: &[u8]) -> bool
+pub fn are_digits(bytes: &[u8]) -> bool
     ensures { result ≡ list_all is_digit bytes.now }
 {
     bytes.iter().all(|b| is_digit(*b))
@@ -102,7 +102,7 @@ pub fn pri_at(text: &str) -> Result<(u8, &str), Unread>
     Ok((pri, rest))
 }
 
-fn are_printable(bytes: &[u8]) -> bool
+pub fn are_printable(bytes: &[u8]) -> bool
     ensures { result ≡ list_all is_printable bytes.now }
 {
     bytes.iter().all(|b| *b >= 33 && *b <= 126)

@@ -13,7 +13,7 @@ use std::alloc::Global;
 /// Where the fraction of a second, or the offset, begins.
 const CLOCK_END: usize = 19;
 
-const MAX_FRACTION: usize = 6;
+pub const MAX_FRACTION: usize = 6;
 
 /// How many digits stand at the front.
 fn digits_len(bytes: &[u8]) -> usize
