@@ -1,18 +1,24 @@
 -- Fields that are appended.
-use Rattle.std.proofs.Common.{◌≡◌, ℕ, zero, suc, ◌+◌, ◌-◌, ◌<◌, ◌==◌, List, [], ◌∷◌, ◌++◌, length, take, get_or, map, Result, Ok, Err, refl, sym, ap, subst, ◌∙◌, arith, append_assoc, add-one}
+use Rattle.std.proofs.Common.{◌≡◌, ℕ, zero, suc, ◌+◌, ◌-◌, ◌<◌, List, [], ◌∷◌, ◌++◌, length, take, get_or, map, Result, Ok, Err, refl, sym, ap, subst, ◌∙◌, arith, append_assoc, add-one}
 use Rattle.std.specs.Prelude.{String, OnOk}
 use Rattle.std.specs.declared.alloc.Global.{Global}
 use Rattle.std.proofs.lemmas.List.{append-nil}
 use Rattle.gl_fields.specs.declared.field.Value.{Value as Field}
+use Rattle.gl_json.specs.declared.bytes.Stop.{Stop}
+use Rattle.gl_json.specs.declared.refusal.Halt.{Halt}
+use Rattle.gl_json.specs.declared.refusal.Halt.TheVariants.{At, OutOfMemory}
+use Rattle.gl_json.specs.declared.refusal.JsonRefusal.{JsonRefusal}
+use Rattle.gl_json.specs.declared.refusal.JsonRefusal.TheVariants as refusals
 use Rattle.gl_json.specs.declared.value.Member.{Member}
-use Rattle.gl_json.specs.Grammar.{Value, object, null, Pair, IsMember, IsValue, IsObject}
-use Rattle.gl_json.specs.Flattening.{IsKept, AreFlatWith, ended, kept, skipped, nested, IsFlatIn, AreFlat, Grows, Appends, IsUnder}
-use Rattle.gl_json.specs.Reading.{sign_at, elements_at, member_at, value_at}
+use Rattle.gl_json.specs.Grammar.{Value, object, null, Pair, IsMember, IsValue, IsObject, IsObjectText}
+use Rattle.gl_json.specs.Flattening.{IsKept, AreFlatWith, ended, kept, skipped, nested, IsFlatIn, AreFlat, Grows, Appends, IsUnder, Flattens}
+use Rattle.gl_json.specs.Reading.{Read, behind_first, elements_at, member_at, value_at}
+use Rattle.gl_json.specs.Places.{Answers, Halts, object_of}
 use Rattle.gl_json.specs.Views.{pair_view, field_view}
-use Rattle.gl_json.proofs.Taking.{one_sound}
-use Rattle.gl_json.proofs.CharRead.{eq_is}
-use Rattle.gl_json.proofs.ElementRead.{elements_sound}
-use Rattle.gl_json.proofs.ValueRead.{member_sound, value_sound}
+use Rattle.gl_json.proofs.Taking.{ok_is}
+use Rattle.gl_json.proofs.ElementRead.{elements_complete}
+use Rattle.gl_json.proofs.ValueRead.{member_complete, value_complete}
+use Rattle.gl_json.proofs.Whole.{object_only}
 
 flat_append : (Nested : List ℕ → List ℕ → List (List ℕ × Field) → Type 0) (prefix : List ℕ) (ms ns : List Pair) (fs gs : List (List ℕ × Field))
     → AreFlatWith Nested prefix ms fs → AreFlatWith Nested prefix ns gs → AreFlatWith Nested prefix (ms ++ ns) (fs ++ gs)
@@ -22,6 +28,19 @@ flat_append Nested prefix ms ns fs gs (skipped raw os hs more) b = skipped raw (
 flat_append Nested prefix ms ns fs gs (nested raw name t os is hs says inner more) b =
     subst (AreFlatWith Nested prefix (record { name = raw; value = object t } ∷ (os ++ ns))) (sym (append_assoc is hs gs))
     (nested raw name t (os ++ ns) is (hs ++ gs) says inner (flat_append Nested prefix os ns hs gs more b))
+
+same_members : (text : List ℕ) (ms ns : List Pair) → object_of text ≡ Ok ms → object_of text ≡ Ok ns → ms ≡ ns
+same_members text ms ns a b = let both : (let r : Result (List Pair) JsonRefusal = Ok ms in r) ≡ Ok ns = sym a ∙ b in cc
+
+-- the same fields are those of the members that a text has
+pub flat_same : (text : List ℕ) (ms ns : List Pair) (fs : List (List ℕ × Field)) → IsObjectText text ns → AreFlat 63 [] ns fs → IsObjectText text ms → (os : List Pair) × ((let r : Result (List Pair) JsonRefusal = Ok ms in r) ≡ Ok os) × AreFlat 63 [] os fs
+flat_same text ms ns fs is flat other = let same : ms ≡ ns = same_members text ms ns (object_only text ms other) (object_only text ns is) in (ms, refl, subst (λ (os : List Pair). AreFlat 63 [] os fs) (sym same) flat)
+
+pub refusal_same : {X Y : Type 0} (view : X → List (List ℕ × Field)) (look : Y → List Pair) (e : JsonRefusal) (read : Result (List Pair) JsonRefusal)
+    → Answers look (Err e) read → Flattens view (Err e) read
+refusal_same view look refusals.OutOfMemory read h = tt
+refusal_same view look (refusals.NotJson at) read h = h
+refusal_same view look refusals.TooDeep read h = h
 
 pub grows_none : (n : ℕ) (prefix : List ℕ) (old : List (List ℕ × Field)) → Grows n prefix [] old old
 grows_none n prefix old = ([], ended, sym (append-nil old))
@@ -47,13 +66,26 @@ grows_nested (suc n) prefix raw t under under_ ms old new some u joined is g =
     let flat : AreFlat n (prefix ++ (u.0 ++ 95 ∷ [])) ms g_n.0 = subst (λ (p : List ℕ). AreFlat n p ms g_n.0) same g_n.1 in
     (g_n.0 ++ [], nested raw u.0 t [] g_n.0 [] u.1 (ms, is_n, flat) ended, g_n.2 ∙ ap (λ (l : List (List ℕ × Field)). old ++ l) (sym (append-nil g_n.0)))
 
-pub nested_is : (n : ℕ) (text : List ℕ) (x : ℕ × List ℕ) (ms : List Pair) (rest : List ℕ) → sign_at 123 text ≡ Ok x → elements_at (member_at (value_at n)) 125 x.1 ≡ Ok (ms, rest) → length rest ≡ 0 → IsObject n text ms
-nested_is n text x ms (b ∷ rest) e f none = absurd (omega arith)
-nested_is n text x ms [] e f none =
-    let o = one_sound (λ b. b == 123) text x e in
-    let p = elements_sound (member_at (value_at n)) 123 125 (IsMember (IsValue n)) (member_sound (value_at n) (IsValue n) (value_sound n)) x.1 (ms, []) f in
-    let whole : text ≡ p.piece = o.1 ∙ ap (λ (b : ℕ). b ∷ x.1) (eq_is x.0 123 o.0) ∙ p.text ∙ append-nil p.piece in
-    subst (λ (l : List ℕ). IsObject n l ms) (sym whole) p.is
+nested_reads : (n : ℕ) (text : List ℕ) (ms : List Pair) → IsObject n text ms → elements_at (member_at (value_at n)) 125 (behind_first text) ≡ Ok (ms, [])
+nested_reads n text ms is =
+    let b = elements_complete (member_at (value_at n)) 123 125 (IsMember (IsValue n)) (member_complete (value_at n) (IsValue n) (value_complete n)) refl refl text [] ms is in
+    let behind : behind_first text ≡ b.inner ++ [] = ap behind_first b.text ∙ sym (append-nil b.inner) in
+    ap (elements_at (member_at (value_at n)) 125) behind ∙ b.reads
+
+pub nested_is : (n : ℕ) (text behind : List ℕ) (ms : List Pair) (x : List Pair × List ℕ) → IsObject n text ms → behind ≡ behind_first text → elements_at (member_at (value_at n)) 125 behind ≡ Ok x → IsObject n text x.0
+nested_is n text behind ms x is e f =
+    let same : (ms, []) ≡ x = ok_is (ms, []) x (sym (nested_reads n text ms is) ∙ ap (elements_at (member_at (value_at n)) 125) (sym e) ∙ f) in
+    subst (λ (y : List Pair × List ℕ). IsObject n text y.0) same is
+
+nested_read : (n : ℕ) (text behind : List ℕ) (ms : List Pair) (stop : Stop) → IsObject n text ms → behind ≡ behind_first text → elements_at (member_at (value_at n)) 125 behind ≡ Err stop → ⊥
+nested_read n text behind ms stop is e f =
+    let both : (let r : Read (List Pair) = Ok (ms, []) in r) ≡ Err stop = sym (nested_reads n text ms is) ∙ ap (elements_at (member_at (value_at n)) 125) (sym e) ∙ f in
+    cc
+
+pub nested_halts : {X : Type 0} (view : X → List Pair × List ℕ) (n : ℕ) (text behind : List ℕ) (ms : List Pair) (halt : Halt) (stop : Stop) → IsObject n text ms → behind ≡ behind_first text → halt ≡ At stop
+    → Halts view (Err halt) (elements_at (member_at (value_at n)) 125 behind) → ⊥
+nested_halts view n text behind ms (At stop) s is e same f = nested_read n text behind ms stop is e f
+nested_halts view n text behind ms OutOfMemory s is e same f = absurd cc
 
 pub fields_more : (ps : List (String Global × Field)) (p : String Global × Field) → map field_view (ps ++ p ∷ []) ≡ map field_view ps ++ field_view p ∷ []
 fields_more [] p = refl

@@ -6,4 +6,5 @@ pub mod ValueRead
 pub mod Whole
 pub mod Encoding
 pub mod SaidRead
+pub mod Formed
 pub mod Growing

@@ -62,7 +62,7 @@ hex_few b = grind arith
 unit_few : (a b c d : ℕ) → code_unit a b c d < 65536
 unit_few a b c d = omega (arith, hex_few a, hex_few b, hex_few c, hex_few d)
 
-plain_low : (a : ℕ) → is_plain a ≡ true → a < 128
+pub plain_low : (a : ℕ) → is_plain a ≡ true → a < 128
 plain_low a h = grind arith
 
 meaning_low : (b : ℕ) → is_escape b ≡ true → meaning b < 128

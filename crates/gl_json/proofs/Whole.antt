@@ -14,11 +14,11 @@ pub refused_ok : {X : Type 0} (text : List ℕ) (r : Result X Stop) (x : X) → 
 refused_ok text (Ok y) x e = let same : y ≡ x = cc in ap Ok same
 refused_ok text (Err s) x e = absurd cc
 
-object_found : (text : List ℕ) (ms : List Pair) → object_of text ≡ Ok ms → IsObjectText text ms
+pub object_found : (text : List ℕ) (ms : List Pair) → object_of text ≡ Ok ms → IsObjectText text ms
 unfolding object_of
 object_found text ms e = whole_sound text ms (refused_ok text (whole_at text) ms e)
 
-object_only : (text : List ℕ) (ms : List Pair) → IsObjectText text ms → object_of text ≡ Ok ms
+pub object_only : (text : List ℕ) (ms : List Pair) → IsObjectText text ms → object_of text ≡ Ok ms
 unfolding object_of
 object_only text ms is = ap (refused text) (whole_complete text ms is)
 

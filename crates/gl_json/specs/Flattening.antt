@@ -4,8 +4,10 @@ use Rattle.gl_fields.specs.declared.field.Value.{Value as Field}
 use Rattle.gl_fields.specs.declared.field.Value.TheVariants.{Text, Whole}
 use Rattle.gl_json.specs.declared.refusal.JsonRefusal.{JsonRefusal}
 use Rattle.gl_json.specs.declared.refusal.JsonRefusal.TheVariants as refusals
-use Rattle.gl_json.specs.Numbers.{is_digit}
-use Rattle.gl_json.specs.Grammar.{Value, text, number, yes_, no_, null, object, array, Pair, IsObject}
+use Rattle.gl_json.specs.declared.chars.Char.{Char}
+use Rattle.gl_json.specs.Chars.{AreChars, inside}
+use Rattle.gl_json.specs.Numbers.{is_digit, IsNumber}
+use Rattle.gl_json.specs.Grammar.{Value, text, number, yes_, no_, null, object, array, Pair, IsObjectIn, IsArrayIn, IsObject}
 use Rattle.gl_json.specs.Escapes.{Says}
 
 -- the number that these digits write, counted on from n; there is none above 2 ^ 63
@@ -60,6 +62,24 @@ Grows n prefix ms old new = (fs : List (List ℕ × Field)) × AreFlat n prefix 
 -- a field of a member of this name is appended
 abbrev pub Appends : List ℕ → List ℕ → Field → List (List ℕ × Field) → List (List ℕ × Field) → Type 0
 Appends prefix raw f old new = (name : List ℕ) × Says raw name × (new ≡ old ++ (prefix ++ name, f) ∷ [])
+
+-- what stands between the quotes of a string
+abbrev pub IsInside : List ℕ → Type 0
+IsInside raw = (cs : List Char) × AreChars cs × (raw ≡ inside cs)
+
+-- a value as the grammar has it, where objects and arrays nest at most so deep
+abbrev pub IsFormed : ℕ → Value → Type 0
+IsFormed n (text raw) = IsInside raw
+IsFormed n (number literal) = IsNumber literal
+IsFormed n yes_ = ⊤
+IsFormed n no_ = ⊤
+IsFormed n null = ⊤
+IsFormed n (object t) = IsObjectIn n t
+IsFormed n (array t) = IsArrayIn n t
+
+-- a member so
+abbrev pub IsFormedPair : ℕ → Pair → Type 0
+IsFormedPair n m = IsInside m.name × IsFormed n m.value
 
 -- a name under a prefix
 abbrev pub IsUnder : List ℕ → List ℕ → List ℕ → Type 0

@@ -12,6 +12,8 @@
 mod bytes;
 mod chars;
 mod flat;
+#[cfg(test)]
+mod hostile;
 mod number;
 mod read;
 mod refusal;

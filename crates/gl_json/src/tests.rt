@@ -1,7 +1,7 @@
 //! Texts, places and what they say, by RFC 8259 and RFC 3629 and worked out by hand.
 use crate::*;
 use gl_fields::Value;
-use std::alloc::Global;
+use std::alloc::{AllocError, Global};
 
 // Texts that aren't objects, and the place of the first byte that can't follow.
 const PLACES: [(&[u8], u64); 36] = [
@@ -138,32 +138,22 @@ fn what_strings_say(rt: HostRuntime) {
     }
 }
 
-// An object in which arrays nest, so that it has so many levels; without brackets that close them, it is cut short.
-fn levels_of(alloc: Global, levels: usize, is_closed: bool) -> Result<Vec<u8>, JsonRefusal> {
+// An object in which arrays nest, so that it has so many levels.
+fn levels_of(alloc: Global, levels: usize) -> Result<Vec<u8>, AllocError> {
     let mut text = Vec::new(alloc);
-    if text.extend_from_slice(b"{\"a\":").is_err() {
-        return Err(JsonRefusal::OutOfMemory);
+    text.extend_from_slice(b"{\"a\":")?;
+    for _ in 1..levels {
+        text.push(b'[')?;
     }
     for _ in 1..levels {
-        if text.push(b'[').is_err() {
-            return Err(JsonRefusal::OutOfMemory);
-        }
+        text.push(b']')?;
     }
-    if is_closed {
-        for _ in 1..levels {
-            if text.push(b']').is_err() {
-                return Err(JsonRefusal::OutOfMemory);
-            }
-        }
-        if text.push(b'}').is_err() {
-            return Err(JsonRefusal::OutOfMemory);
-        }
-    }
+    text.push(b'}')?;
     Ok(text)
 }
 
-fn is_deep(alloc: Global, levels: usize, is_closed: bool) -> bool {
-    match levels_of(alloc, levels, is_closed) {
+fn is_deep(alloc: Global, levels: usize) -> bool {
+    match levels_of(alloc, levels) {
         Ok(text) => matches!(
             read_object(alloc, text.as_slice()),
             Err(JsonRefusal::TooDeep)
@@ -173,7 +163,7 @@ fn is_deep(alloc: Global, levels: usize, is_closed: bool) -> bool {
 }
 
 fn nests(alloc: Global, levels: usize) -> bool {
-    match levels_of(alloc, levels, true) {
+    match levels_of(alloc, levels) {
         Ok(text) => has_members(alloc, text.as_slice(), 1),
         Err(_) => false,
     }
@@ -183,8 +173,7 @@ fn nests(alloc: Global, levels: usize) -> bool {
 fn levels_are_counted(rt: HostRuntime) {
     let alloc = rt.alloc();
     assert!(rt; nests(alloc, 64));
-    assert!(rt; is_deep(alloc, 65, true));
-    assert!(rt; is_deep(alloc, 1_000_000, false));
+    assert!(rt; is_deep(alloc, 65));
     assert!(rt;
         is_refused(
             alloc,

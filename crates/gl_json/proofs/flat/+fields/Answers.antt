@@ -1,9 +1,11 @@
-use Rattle.std.proofs.Common.{◌≡◌, ◌-◌, [], ◌∷◌, ◌++◌, map, sym, subst, ◌∙◌, arith}
+use Rattle.std.proofs.Common.{◌≡◌, ◌-◌, [], ◌∷◌, ◌++◌, map, sym, subst, ◌∙◌, rules}
+use Rattle.std.specs.List.{All}
 use Rattle.std.specs.String.{string_bytes}
 use Rattle.gl_json.specs.Grammar.{IsObject, text, number, yes_, no_, array}
-use Rattle.gl_json.specs.Flattening.{IsKept, kept_number, kept_true, kept_false, kept_array}
-use Rattle.gl_json.specs.Views.{pair_view, field_view}
+use Rattle.gl_json.specs.Flattening.{IsFormed, IsFormedPair, IsKept, kept_number, kept_true, kept_false, kept_array}
+use Rattle.gl_json.specs.Views.{value_view, pair_view, field_view}
 use Rattle.gl_json.proofs.Growing.{grows_none, grows_null, keeps, nests, grows_step}
+use Rattle.gl_json.proofs.Formed.{object_some, object_opened, utf8_number, utf8_array}
 use Rattle.gl_json.proofs.flat.+fields.Goals as goal
 
 pub push_member-returns-in-Null : goal.push_member-returns-in-Null
@@ -41,6 +43,26 @@ pub push_object-returns : goal.push_object-returns
 push_object-returns t c =
     let joined : c.as_str.result.now ≡ string_bytes c.in_ok-name.name ++ 95 ∷ [] = c.as_str.ensures.value ∙ c.in_ok-push_str.ensures.bytes in
     let same : c.as_slice.result.now ≡ c.in_ok-members.members.items = c.as_slice.ensures.value in
-    let is : IsObject (c.args.levels - 1) c.args.text.now (map pair_view c.as_slice.result.now) = rw same c.in_ok-members.ensures in
+    let is : IsObject (c.args.levels - 1) c.args.text.now (map pair_view c.as_slice.result.now) = rw same c.in_ok-members.ensures.object in
     nests c.push_members.result c.args.levels c.args.prefix.now c.args.raw.now c.args.text.now (string_bytes c.in_ok-name.name) c.as_str.result.now (map pair_view c.as_slice.result.now)
-    (map field_view c.args.fields.now.items) (map field_view c.push_members.new.fields.items) (omega arith) c.in_ok-name.ensures joined is c.push_members.ensures
+    (map field_view c.args.fields.now.items) (map field_view c.push_members.new.fields.items) (object_some c.args.levels c.args.text.now c.requires.1.1.1) c.in_ok-name.ensures joined is c.push_members.ensures
+
+pub push_member-number_value-requires : goal.push_member-number_value-requires
+push_member-number_value-requires t c = utf8_number c.in-Number.literal.now (subst (λ v. IsFormed c.args.levels (value_view v)) c.in-Number.is c.requires.1.1.1)
+
+pub push_member-plain_value-requires-in-Array : goal.push_member-plain_value-requires-in-Array
+push_member-plain_value-requires-in-Array t c = utf8_array c.args.levels c.in-Array.text.now (subst (λ v. IsFormed c.args.levels (value_view v)) c.in-Array.is c.requires.1.1.1)
+
+pub push_object-overflow_sub-levels : goal.push_object-overflow_sub-levels
+push_object-overflow_sub-levels t c = object_some c.args.levels c.args.text.now c.requires.1.1.1
+
+pub push_object-nested_members-requires : goal.push_object-nested_members-requires
+push_object-nested_members-requires t c = object_opened c.args.levels c.args.text.now c.requires.1.1.1
+
+pub push_object-overflow_sub-levels-2 : goal.push_object-overflow_sub-levels-2
+push_object-overflow_sub-levels-2 t c = object_some c.args.levels c.args.text.now c.requires.1.1.1
+
+pub push_object-push_members-requires : goal.push_object-push_members-requires
+push_object-push_members-requires t c =
+    let some = object_some c.args.levels c.args.text.now c.requires.1.1.1 in
+    (search (rules, some), subst (All (λ m. IsFormedPair (c.args.levels - 1) (pair_view m))) (sym c.as_slice.ensures.value) c.in_ok-members.ensures.formed)
