@@ -1,0 +1,52 @@
+-- A number of so many digits is below that power of ten.
+use Rattle.std.proofs.Common.{◌≡◌, ℕ, zero, suc, ◌+◌, ◌-◌, ◌*◌, ◌^◌, ◌<◌, ◌≤◌, true, List, [], ◌∷◌, ◌++◌, length, take, drop, get_or, refl, sym, subst, ap, ◌∙◌, arith}
+use Rattle.std.specs.List.{list_all}
+use Rattle.std.proofs.lemmas.Bool.{and_parts}
+use Rattle.std.proofs.lemmas.List.{take-append-drop, length-take}
+use Rattle.std.proofs.lemmas.List.Folds.{list_all-append}
+use Rattle.std.proofs.Math.Nat.{mul-le-mul_left}
+use Rattle.gl_http.specs.Fields.{is_digit, decimal_after}
+
+pow_some : (k : ℕ) → 1 ≤ 10 ^ k
+pow_some zero = omega arith
+pow_some (suc k) =
+    let rest = pow_some k in
+    let pow : 10 ^ suc k ≡ 10 * 10 ^ k = omega arith in
+    rw pow (omega (arith, rest))
+
+pub decimal_short : (k n : ℕ) (ds : List ℕ) → list_all is_digit ds ≡ true → length ds ≤ k → decimal_after n ds < (n + 1) * 10 ^ k
+decimal_short k n [] all few =
+    let one : 1 ≤ 10 ^ k = pow_some k in
+    omega (arith, mul-le-mul_left (n + 1) one)
+decimal_short zero n (d ∷ ds) all few = absurd (omega arith)
+decimal_short (suc k) n (d ∷ ds) all few =
+    let both = and_parts (is_digit d) (list_all is_digit ds) all in
+    let small : d - 48 ≤ 9 = let e = both.0 in grind arith in
+    let rest = decimal_short k (n * 10 + (d - 48)) ds both.1 (omega arith) in
+    let more : n * 10 + (d - 48) + 1 ≤ 10 * (n + 1) = omega arith in
+    let up : 10 ^ k * (n * 10 + (d - 48) + 1) ≤ 10 ^ k * (10 * (n + 1)) = mul-le-mul_left (10 ^ k) more in
+    let pow : 10 ^ suc k ≡ 10 * 10 ^ k = omega arith in
+    rw pow (omega (arith, rest, up))
+
+pub digits_take : (ds : List ℕ) (n : ℕ) → list_all is_digit ds ≡ true → list_all is_digit (take n ds) ≡ true
+digits_take ds n all =
+    let whole : list_all is_digit (take n ds ++ drop n ds) ≡ true = ap (list_all is_digit) (take-append-drop n ds) ∙ all in
+    let both = and_parts (list_all is_digit (take n ds)) (list_all is_digit (drop n ds)) (sym (list_all-append is_digit (take n ds) (drop n ds)) ∙ whole) in
+    both.0
+
+-- what was read before a digit of at most 18
+pub below : (ds : List ℕ) (i : ℕ) → list_all is_digit ds ≡ true → length ds ≤ 18 → i < length ds → decimal_after 0 (take i ds) < 100000000000000000
+below ds i all few at =
+    let short = decimal_short 17 0 (take i ds) (digits_take ds i all) (omega (arith, length-take i ds, few, at)) in
+    omega (arith, short)
+
+-- one digit more
+next_digit : (n : ℕ) (ds : List ℕ) (i : ℕ) → i < length ds → decimal_after n (take (suc i) ds) ≡ decimal_after n (take i ds) * 10 + (get_or ds i 0 - 48)
+next_digit n [] i at = absurd (omega arith)
+next_digit n (d ∷ ds) zero at = refl
+next_digit n (d ∷ ds) (suc i) at = next_digit (n * 10 + (d - 48)) ds i (omega arith)
+
+pub digit_read : (n : ℕ) (ds : List ℕ) (i : ℕ) → i < length ds → decimal_after n (take (i + 1) ds) ≡ decimal_after n (take i ds) * 10 + (get_or ds i 0 - 48)
+digit_read n ds i at =
+    let one : suc i ≡ i + 1 = omega arith in
+    subst (λ m. decimal_after n (take m ds) ≡ decimal_after n (take i ds) * 10 + (get_or ds i 0 - 48)) one (next_digit n ds i at)

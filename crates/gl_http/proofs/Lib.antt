@@ -1,0 +1,4 @@
+mod Decimals
+mod Printables
+mod Stripped
+mod Whole

@@ -1,0 +1,5 @@
+pub mod Answers
+pub mod Fields
+pub mod Front
+pub mod ReplyBytes
+pub mod Routes
