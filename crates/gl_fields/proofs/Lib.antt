@@ -2,6 +2,7 @@ pub mod Names
 pub mod Rising
 pub mod Placing
 pub mod Setting
+pub mod Moving
 pub mod OutcomeRead
 pub mod Peel
 pub mod ReadBack

@@ -29,7 +29,7 @@ filter-none {X} p (x ∷ xs) all =
     rw first (filter-none p xs (All-tail (λ (x : X). p x ≡ false) x xs all))
 
 -- a filter that passes the middle of three parts alone, or one of the others
-filter-parts : {X : Type 0} (p : X → Bool) (front middle back : List X)
+pub filter-parts : {X : Type 0} (p : X → Bool) (front middle back : List X)
     → filter p (front ++ (middle ++ back)) ≡ filter p front ++ (filter p middle ++ filter p back)
 filter-parts {X} p front middle back =
     filter-append p front (middle ++ back) ∙ ap (λ (l : List X). filter p front ++ l) (filter-append p middle back)
@@ -75,7 +75,7 @@ pub around_one : {X : Type 0} (xs : List X) (at : ℕ) (d : X) → at < length x
 around_one {X} xs at d lt =
     sym (take-append-drop at xs) ∙ ap (λ (l : List X). take at xs ++ l) (drop-cons xs at d lt ∙ ap (λ (n : ℕ). get_or xs at d ∷ drop n xs) (sym (add-one at)))
 
-one_named : (name : List ℕ) (field : Field) → field.name ≡ name → All (Named name) (field ∷ [])
+pub one_named : (name : List ℕ) (field : Field) → field.name ≡ name → All (Named name) (field ∷ [])
 one_named name field e = All-cons (Named name) field [] e (All-nil (Named name))
 
 pub with_field-new : (field : Field) (fields : List Field) (at : ℕ) → Parts field.name fields at at → with_field field fields ≡ insert fields at field

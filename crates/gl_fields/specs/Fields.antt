@@ -1,5 +1,5 @@
 -- Values, and the map of a message's fields as the list of its fields in rising order of the names' bytes.
-use Rattle.std.specs.Prelude.{◌≡◌, ℕ, ◌+◌, ◌≤◌, ◌≤ℤ◌, pos, negsuc, ⊤, Bool, true, false, not, ◌&&◌, ◌||◌, List, [], ◌∷◌, ◌++◌, length, nat_lt, ◌==◌, sum_by, filter, if◌then◌else◌, Option, Some, None, codes}
+use Rattle.std.specs.Prelude.{◌≡◌, ℕ, ◌+◌, ◌≤◌, ◌≤ℤ◌, pos, negsuc, ⊤, Bool, true, false, not, ◌&&◌, ◌||◌, List, [], ◌∷◌, ◌++◌, length, nat_lt, ◌==◌, sum_by, filter, if◌then◌else◌, Option, Some, None, is_some, Result, Ok, Err, codes}
 use Rattle.std.specs.Ordering.{nat_cmp}
 use Rattle.std.specs.List.{All, list_all, list_any}
 use Rattle.std.specs.Int.{is_in_range}
@@ -73,6 +73,44 @@ refusal_of field fields =
     else (if nat_lt 256 (length (with_field field fields)) then Some TooManyFields
     else (if nat_lt 2097152 (counted_size (with_field field fields)) then Some TooLarge
     else None)))
+
+-- A field that is taken away, and one that gets another name.
+
+-- the map without the field of this name
+abbrev pub without : List ℕ → List Field → List Field
+without name fields = filter (λ field. not (bytes_eq field.name name)) fields
+
+-- the fields that each message has are never taken away
+abbrev pub stays : List ℕ → Bool
+stays name = bytes_eq name (codes "message") || (bytes_eq name (codes "source") || bytes_eq name (codes "timestamp"))
+
+-- whether the field to be taken away was there, or why it isn't taken away
+abbrev pub removal : List ℕ → List Field → Result Bool FieldRefusal
+removal name fields = if not (is_some (value_of name fields)) then Ok false else (if stays name then Err Reserved else Ok true)
+
+-- the map with this value under the new name, and without the old one
+abbrev pub moved : List ℕ → List ℕ → List Field → Option Value → List Field
+moved from to fields None = fields
+moved from to fields (Some value) = with_field (record { name = to; value = value }) (without from fields)
+
+abbrev pub renamed : List ℕ → List ℕ → List Field → List Field
+renamed from to fields = moved from to fields (value_of from fields)
+
+abbrev pub refused : Option FieldRefusal → Option (Result Bool FieldRefusal)
+refused None = None
+refused (Some cause) = Some (Err cause)
+
+abbrev pub settled_by : List ℕ → List ℕ → List Field → Option Value → Option (Result Bool FieldRefusal)
+settled_by from to fields None = Some (Ok false)
+settled_by from to fields (Some value) =
+    if bytes_eq from to then Some (Ok true)
+    else (if stays from then Some (Err Reserved)
+    else refused (refusal_of (record { name = to; value = value }) (without from fields)))
+
+-- the answer to a rename that moves no field: the field isn't there, has the new name already, or is refused by
+-- the first cause that holds
+abbrev pub settled : List ℕ → List ℕ → List Field → Option (Result Bool FieldRefusal)
+settled from to fields = settled_by from to fields (value_of from fields)
 
 -- The invariant of a map: lawful fields by strictly rising names, not too many and not too large.
 

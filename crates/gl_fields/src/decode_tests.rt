@@ -188,7 +188,7 @@ fn an_outcome_that_is_cut_off_ends_at_its_last_part(rt: HostRuntime) {
 }
 
 #[test]
-fn the_places_of_unlawful_outcomes(rt: HostRuntime) {
+fn the_places_of_unlawful_signs_and_counts(rt: HostRuntime) {
     let alloc = rt.alloc();
     let cases = [
         (b"\x0f".as_slice(), 0),
@@ -199,13 +199,17 @@ fn the_places_of_unlawful_outcomes(rt: HostRuntime) {
         (b"\x13\x07".as_slice(), 1),
         (b"\x13\x01\x00\x00\x00".as_slice(), 2),
         (b"\x13\x02\x00".as_slice(), 2),
-        // no stream, and one that comes twice
+        // no stream, one that comes twice, and 65,535 of which one is there
         (b"\x11\x00\x00".as_slice(), 1),
         (
             b"\x11\x00\x02\x00\x00\x00\x00\x00\x00\x00\x02\x00\x00\x00\x00\x00\x00\x00\x02".as_slice(),
             11,
         ),
-        // 257 fields
+        (
+            b"\x11\xff\xff\x00\x00\x00\x00\x00\x00\x00\x02".as_slice(),
+            11,
+        ),
+        // 257 fields, and 256 of which none is there
         (
             b"\x11\x00\x01\x00\x00\x00\x00\x00\x00\x00\x01\x01\x01".as_slice(),
             11,
@@ -214,49 +218,42 @@ fn the_places_of_unlawful_outcomes(rt: HostRuntime) {
             b"\x11\x00\x01\x00\x00\x00\x00\x00\x00\x00\x01\x01\x00".as_slice(),
             13,
         ),
-        // names: none, with a space, `_id`, twice, and not rising
-        (
-            b"\x11\x00\x01\x00\x00\x00\x00\x00\x00\x00\x01\x00\x01\x00".as_slice(),
-            13,
-        ),
-        (
-            b"\x11\x00\x01\x00\x00\x00\x00\x00\x00\x00\x01\x00\x01\x03a b".as_slice(),
-            14,
-        ),
-        (
-            b"\x11\x00\x01\x00\x00\x00\x00\x00\x00\x00\x01\x00\x01\x03_id".as_slice(),
-            14,
-        ),
-        (
-            b"\x11\x00\x01\x00\x00\x00\x00\x00\x00\x00\x01\x00\x02\x01a\x00\x00\x00\x00\x00\x01a".as_slice(),
-            21,
-        ),
-        (
-            b"\x11\x00\x01\x00\x00\x00\x00\x00\x00\x00\x01\x00\x02\x01b\x00\x00\x00\x00\x00\x01a".as_slice(),
-            21,
-        ),
-        // `timestamp` as a text counts at its name, once the text is there
-        (
-            b"\x11\x00\x01\x00\x00\x00\x00\x00\x00\x00\x01\x00\x01\x09timestamp\x00\x00\x00\x00\x01x".as_slice(),
-            14,
-        ),
-        (
-            b"\x11\x00\x01\x00\x00\x00\x00\x00\x00\x00\x01\x00\x01\x09timestamp\x00\x00\x00\x00\x02x".as_slice(),
-            28,
-        ),
-        // a value of no kind, and one that isn't UTF-8
-        (
-            b"\x11\x00\x01\x00\x00\x00\x00\x00\x00\x00\x01\x00\x01\x01a\x02".as_slice(),
-            15,
-        ),
-        (
-            b"\x11\x00\x01\x00\x00\x00\x00\x00\x00\x00\x01\x00\x01\x01a\x00\x00\x00\x00\x01\xff".as_slice(),
-            20,
-        ),
     ];
     for (bytes, at) in cases {
         assert_eq!(rt; outcome_place(alloc, bytes), Some(at), "at {bytes:?}");
     }
+}
+
+// An outcome in the stream 1 whose count of fields and fields are these.
+fn stored_with(alloc: Global, fields: &[u8]) -> Result<Vec<u8>, AllocError> {
+    let mut bytes = Vec::from_slice(alloc, b"\x11\x00\x01\x00\x00\x00\x00\x00\x00\x00\x01")?;
+    bytes.extend_from_slice(fields)?;
+    Ok(bytes)
+}
+
+#[test]
+fn the_places_of_unlawful_fields(rt: HostRuntime) -> Result<(), Fail> {
+    let alloc = rt.alloc();
+    let cases = [
+        // names: none, with a space, `_id`, twice, and not rising
+        (b"\x00\x01\x00".as_slice(), 13),
+        (b"\x00\x01\x03a b".as_slice(), 14),
+        (b"\x00\x01\x03_id".as_slice(), 14),
+        (b"\x00\x02\x01a\x00\x00\x00\x00\x00\x01a".as_slice(), 21),
+        (b"\x00\x02\x01b\x00\x00\x00\x00\x00\x01a".as_slice(), 21),
+        // `timestamp` as a text counts at its name, once the text is there
+        (b"\x00\x01\x09timestamp\x00\x00\x00\x00\x01x".as_slice(), 14),
+        (b"\x00\x01\x09timestamp\x00\x00\x00\x00\x02x".as_slice(), 28),
+        // a value of no kind, and one that isn't UTF-8
+        (b"\x00\x01\x01a\x02".as_slice(), 15),
+        (b"\x00\x01\x01a\x00\x00\x00\x00\x01\xff".as_slice(), 20),
+    ];
+    for (fields, at) in cases {
+        let bytes = stored_with(alloc, fields)?;
+        let place = outcome_place(alloc, bytes.as_slice());
+        assert_eq!(rt; place, Some(at), "at {fields:?}");
+    }
+    Ok(())
 }
 
 // An outcome of one field `t` whose text has so many letters, its length in two bytes and one before.

@@ -1,8 +1,9 @@
-ghost use Rattle.std.specs.Prelude.{◌≡◌, ◌==◌, [], length, IfOk, OnOk, OnErr, IfErr, MatchOption, option_copied};
+ghost use Rattle.std.specs.Prelude.{◌≡◌, ◌==◌, [], true, length, IfOk, OnOk, OnErr, IfErr, MatchOption, MatchResult, option_copied};
 ghost use Rattle.gl_fields.specs.declared.field.FieldRefusal.TheVariants.{OutOfMemory};
-ghost use Rattle.gl_fields.specs.Fields.{value_of, value_text, with_field, refusal_of, is_text, IsValue, IsFieldMap};
+ghost use Rattle.gl_fields.specs.Fields.{value_of, value_text, with_field, refusal_of, without, removal, renamed, settled, is_text, IsValue, IsFieldMap};
 
-use crate::place::{position_of, put, refusal};
+use crate::place::{position_of, put, refusal, stays};
+use crate::rename::rename_at;
 use crate::size::signed_decimal_len;
 use gl_base::Text;
 use std::alloc::{AllocError, Global};
@@ -81,6 +82,16 @@ impl Value {
         match self {
             Value::Text(text) => text.as_str().len(),
             Value::Whole(number) => signed_decimal_len(*number),
+        }
+    }
+
+    /// Its text: a whole number's is its decimal, with `-` where negative.
+    pub fn to_text(&self, alloc: Global) -> Result<Text, AllocError>
+        ensures { IfOk result (λ t. t ≡ value_text self.now) }
+    {
+        match self {
+            Value::Text(text) => text.copy(),
+            Value::Whole(number) => Ok(Text::from_string(format!(in alloc; "{number}")?)),
         }
     }
 
@@ -179,6 +190,54 @@ impl FieldMap {
         }
         put(&mut self.fields, place, name, value)?;
         Ok(())
+    }
+
+    /// Takes the field of this name away, and says whether it was there. A refusal changes nothing.
+    ///
+    /// Reserved comes exactly where the field is there and is `message`, `source` or `timestamp`. It takes
+    /// no memory.
+    pub fn remove(&mut self, name: &str) -> Result<bool, FieldRefusal>
+        ensures ok { OnOk result (self.new ≡ without name.now self.old) }
+        ensures err { OnErr result (self.new ≡ self.old) }
+        ensures answer { result ≡ removal name.now self.old }
+    {
+        match position_of(self.fields.as_slice(), name) {
+            Ok(at) => {
+                if stays(name) {
+                    return Err(FieldRefusal::Reserved);
+                }
+                self.fields.remove(at);
+                Ok(true)
+            }
+            Err(_) => Ok(false),
+        }
+    }
+
+    /// Gives a field another name, in the place of the field of that name, and says whether it was there.
+    /// A refusal changes nothing.
+    ///
+    /// A field that isn't there answers false, and one that has the new name already answers true; neither
+    /// is refused. Else Reserved comes where the field is `message`, `source` or `timestamp`, and then what
+    /// `set` refuses of the new name in the map without the old one. OutOfMemory comes only where none of
+    /// them does.
+    pub fn rename(&mut self, from: &str, to: &str) -> Result<bool, FieldRefusal>
+        ensures ok { OnOk result (self.new ≡ renamed from.now to.now self.old) }
+        ensures err { OnErr result (self.new ≡ self.old) }
+        ensures answer { MatchOption (settled from.now to.now self.old) (MatchResult result (λ there. there ≡ true) (λ e. e ≡ OutOfMemory)) (λ answer. result ≡ answer) }
+    {
+        match position_of(self.fields.as_slice(), from) {
+            Ok(at) => {
+                if from == to {
+                    return Ok(true);
+                }
+                if stays(from) {
+                    return Err(FieldRefusal::Reserved);
+                }
+                rename_at(&mut self.fields, at, from, to)?;
+                Ok(true)
+            }
+            Err(_) => Ok(false),
+        }
     }
 
     /// An equal map, with no room to spare.

@@ -3,7 +3,7 @@ ghost use Rattle.std.specs.Prelude.{◌≡◌, ◌+◌, ◌<◌, ◌≤◌, ◌&
 ghost use Rattle.std.specs.Str.{bytes_eq};
 ghost use Rattle.gl_fields.specs.declared.field.Field.{Field};
 ghost use Rattle.std.specs.List.{insert, list_all};
-ghost use Rattle.gl_fields.specs.Fields.{is_name_byte, is_field_name, is_text, refusal_of, field_size, counted_size, with_field, IsValue, IsFieldMap};
+ghost use Rattle.gl_fields.specs.Fields.{is_name_byte, is_field_name, is_text, refusal_of, field_size, counted_size, with_field, stays, IsValue, IsFieldMap};
 ghost use Rattle.gl_fields.specs.Places.{IsPlaceOf};
 
 use crate::{Field, FieldRefusal, Value, size};
@@ -40,6 +40,7 @@ fn has_name_bytes(name: &[u8]) -> bool
     name.iter().all(|b| is_name_byte(*b))
 }
 
+/// Whether a field may have this name: 1 to 255 letters, digits, `_`, `.` and `-`, and not `_id`.
 pub fn is_field_name(name: &str) -> bool
     ensures { result ≡ is_field_name name.now }
 {
@@ -50,6 +51,13 @@ pub fn is_reserved(name: &str, value: &Value) -> bool
     ensures { result ≡ (bytes_eq name.now (codes "timestamp") && is_text value.now) }
 {
     name == "timestamp" && value.is_text()
+}
+
+/// Whether the field of this name is never taken away.
+pub fn stays(name: &str) -> bool
+    ensures { result ≡ stays name.now }
+{
+    name == "message" || name == "source" || name == "timestamp"
 }
 
 /// Whether the map with a field at this place would have too many.

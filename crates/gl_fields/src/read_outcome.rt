@@ -16,6 +16,12 @@ use gl_base::{Items, Text};
 use std::alloc::Global;
 use std::cmp::Ordering;
 
+// In bytes. A count says no more than the bytes behind it can hold, so that a false one takes little memory.
+const ID_LEN: usize = 8;
+
+// A name of one byte behind its length, a sign and the length of an empty text.
+const LEAST_FIELD: usize = 7;
+
 /// The outcome whose bytes these are, and nothing else.
 pub fn decode_outcome(alloc: Global, bytes: &[u8]) -> Result<Outcome, EntryRefusal>
     // What is read has just these bytes.
@@ -114,7 +120,8 @@ fn stored_at(alloc: Global, bytes: &[u8]) -> Result<(Outcome, &[u8]), Unread>
 fn ids_at(alloc: Global, count: u16, bytes: &[u8]) -> Result<(Items<u64>, &[u8]), Unread>
     ensures { Gives (λ x. (x.0, x.1.now)) result (many_at id_at count [] bytes.now) }
 {
-    let mut ids = Vec::with_capacity(alloc, count as usize)?;
+    let room = usize::min(count as usize, bytes.len() / ID_LEN);
+    let mut ids = Vec::with_capacity(alloc, room)?;
     let mut rest = bytes;
     for _ in 0..count {
         let (id, after) = id_at(ids.as_slice(), rest)?;
@@ -151,7 +158,8 @@ fn fields_at(alloc: Global, count: u16, bytes: &[u8]) -> Result<(FieldMap, &[u8]
     requires { count ≤ 256 }
     ensures { Gives (λ x. (x.0, x.1.now)) result (many_at field_at count [] bytes.now) }
 {
-    let mut fields = Vec::with_capacity(alloc, count as usize)?;
+    let room = usize::min(count as usize, bytes.len() / LEAST_FIELD);
+    let mut fields = Vec::with_capacity(alloc, room)?;
     let mut size = 0;
     let mut rest = bytes;
     for _ in 0..count {

@@ -130,6 +130,20 @@ fn a_field_is_found_and_replaced(rt: HostRuntime) -> Result<(), Fail> {
 }
 
 #[test]
+fn the_texts_of_values(rt: HostRuntime) -> Result<(), Fail> {
+    let alloc = rt.alloc();
+    for (number, want) in [(0, "0"), (-20, "-20"), (i64::MIN, "-9223372036854775808")] {
+        let text = Value::Whole(number).to_text(alloc)?;
+        assert_eq!(rt; text.as_str(), want);
+    }
+    let hello = text(alloc, "hello")?.to_text(alloc)?;
+    assert_eq!(rt; hello.as_str(), "hello");
+    assert!(rt; is_field_name("a.b-c"));
+    assert!(rt; !is_field_name("_id"));
+    Ok(())
+}
+
+#[test]
 fn names_that_are_taken_and_refused(rt: HostRuntime) -> Result<(), Fail> {
     let alloc = rt.alloc();
     let longest = letters(alloc, 255)?;
