@@ -1,15 +1,12 @@
-use Rattle.std.proofs.Common.{◌≡◌, ℕ, ◌∷◌, [], ◌++◌, sym, ◌∙◌, ap, subst, Bool, IsTrue, Option, MatchOption, Vec}
+use Rattle.std.proofs.Common.{ℕ, ◌∷◌, [], ◌++◌, ◌∙◌, ap, subst, Option, MatchOption, Vec}
 use Rattle.std.specs.declared.alloc.Global.{Global}
 use Rattle.std.proofs.lemmas.Result.{err_from_is_err_and}
-use Rattle.gl_outside.specs.Disk.{DiskState, Tells}
+use Rattle.gl_outside.proofs.Telling.{still}
 use Rattle.gl_gatelog.specs.Batch.{Batch}
 use Rattle.gl_gatelog.specs.View.{GateView, batch_of}
 use Rattle.gl_gatelog.specs.Progress.{OpeningView, HasRead, HasEnded, IsOfOne, IsFurther, IsNoFurther}
 use Rattle.gl_gatelog.proofs.Reopening.{fault_reads, only_read_on, unchanged_on}
 use Rattle.gl_gatelog.proofs.open.read_to_end.Goals as goal
-
-still : (old new : DiskState) → new.tells ≡ old.tells → Tells old → Tells new
-still old new same tells = subst (λ (b : Bool). IsTrue b) (sym same) tells
 
 of_further : (batch : Batch) (u v w : OpeningView) → IsOfOne u v → IsFurther batch v w → IsOfOne u w
 of_further batch u v w same is = record {

@@ -1,12 +1,10 @@
-use Rattle.std.proofs.Common.{◌≡◌, ◌+◌, ℕ, List, take, drop, sym, ◌∙◌, ap, subst, arith, Bool, IsTrue}
+use Rattle.std.proofs.Common.{◌≡◌, ◌+◌, ℕ, List, take, drop, ◌∙◌, ap, arith}
 use Rattle.std.specs.Int.{to_be_bytes, w32}
 use Rattle.std.proofs.lemmas.List.{take-take}
-use Rattle.gl_outside.specs.Disk.{Image, DiskState, Tells}
+use Rattle.gl_outside.specs.Disk.{Image}
+use Rattle.gl_outside.proofs.Telling.{still}
 use Rattle.gl_gatelog.proofs.Parse.{body_at}
 use Rattle.gl_gatelog.proofs.position.read_body.Goals as goal
-
-still : (old new : DiskState) → new.tells ≡ old.tells → Tells old → Tells new
-still old new same tells = subst (λ (b : Bool). IsTrue b) (sym same) tells
 
 pub returns-then-size-length-clause-found : goal.returns-then-size-length-clause-found
 returns-then-size-length-clause-found g c tells rs is =
