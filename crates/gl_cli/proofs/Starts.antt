@@ -5,8 +5,9 @@ use Rattle.std.proofs.Common.{zero, suc, refl, ◌∙◌, sym, subst, arith, inl
 use Rattle.gl_outside.specs.Disk.{Image, DiskState, IsUnchanged, LeavesOnly}
 use Rattle.gl_outside.proofs.Moments.{at_end, started, then as joined, weaker}
 use Rattle.gl_gatelog.specs.declared.kind.Log.{Log}
+use Rattle.gl_node.specs.declared.node.Options.{Options}
 use Rattle.gl_node.specs.Moments.{LeftBy, LeftSince}
-use Rattle.gl_node.specs.Standing.{StandsFor}
+use Rattle.gl_node.specs.Standing.{HasLimits, StandsFor}
 use Rattle.gl_node.specs.State.{Base, Event, State, opened, state_after}
 use Rattle.gl_cli.specs.declared.status.Command.{Command}
 use Rattle.gl_cli.specs.declared.status.Command.TheVariants as asked
@@ -21,18 +22,22 @@ use Rattle.gl_cli.proofs.Exits.{unanswered, IsOther}
 use Rattle.gl_cli.proofs.Openings.{IfSome-any, ends_unread}
 use Rattle.gl_cli.proofs.Sinks.{Appends-nothing}
 
--- any opening
-pub any_base : Base
-any_base = record {
+-- any opening with these limits
+pub any_base : Options → Base
+any_base options = record {
   journal = [];
   found = [];
   journal_bytes = 0;
   index_bytes = 0;
-  journal_limit = 0;
-  index_limit = 0;
+  journal_limit = options.journal_limit;
+  index_limit = options.index_limit;
   journal_segment = 0;
   index_segment = 0;
 }
+
+pub any_limits : (options : Options) → HasLimits options (any_base options)
+unfolding any_base
+any_limits options = record { journal = refl; index = refl }
 
 take_none : {X : Type 0} (n : ℕ) → take {A = X} n [] ≡ []
 take_none zero = refl

@@ -8,7 +8,7 @@ ghost use Rattle.gl_fields.specs.declared.entry.Outcome.{Outcome};
 ghost use Rattle.gl_node.specs.declared.node.Options.{Options};
 ghost use Rattle.gl_node.specs.Damage.{IsDamaged};
 ghost use Rattle.gl_node.specs.Moments.{LeftSince};
-ghost use Rattle.gl_node.specs.Standing.{AreOptions, IsStore, Shows, StandsFor, base_of};
+ghost use Rattle.gl_node.specs.Standing.{AreOptions, HasLimits, IsStore, Shows, StandsFor, base_of};
 ghost use Rattle.gl_node.specs.State.{Base, opened, state_after};
 ghost use Rattle.gl_cli.specs.Statuses.{open_status_of};
 ghost use Rattle.gl_cli.specs.Words.{command_for, options_of};
@@ -84,7 +84,8 @@ fn run_session<D: Disk, S: Source, K: Sink>(
         (record { source = S.faults source.new; sink = K.faults sink.new; disk = D.faults disk.new; shop = 0 }) }
     ensures script { IfSome (S.left source.old) (λ script. EndsBy script result) }
     ensures whole { result ≡ Status.Done → IsAtEnd (S.left source.new) }
-    ensures output { (base : Base) × IfSome (S.left source.old) (λ script. SessionEnd base script result (K.contents sink.old) (K.contents sink.new)) }
+    ensures output { (base : Base) × HasLimits options base × IfSome (S.left source.old) (λ script. SessionEnd base script result (K.contents sink.old) (K.contents sink.new)) }
+    ensures shown { Tells (D.state disk.old) → AnsweredAll result → (journal : List Entry) × (found : List Outcome) × Shows (D.state disk.old).reads journal found }
     ensures opened { Tells (D.state disk.old) → (journal : List Entry) (found : List Outcome) (shown : Shows (D.state disk.old).reads journal found)
         → IfSome (S.left source.old) (λ script. SessionEnd (base_of options (D.state disk.old).reads journal found shown) script result (K.contents sink.old) (K.contents sink.new)) }
     ensures shows { Tells (D.state disk.old) → (journal : List Entry) (found : List Outcome) (store : IsStore (D.state disk.old) journal found) → AnsweredAll result
@@ -125,7 +126,8 @@ fn run_check<D: Disk, K: Sink>(
     ensures causes { HasCauses result
         (record { source = 0; sink = K.faults sink.old; disk = D.faults disk.old; shop = 0 })
         (record { source = 0; sink = K.faults sink.new; disk = D.faults disk.new; shop = 0 }) }
-    ensures output { (base : Base) × CheckEnd base result (K.contents sink.old) (K.contents sink.new) }
+    ensures output { (base : Base) × HasLimits options base × CheckEnd base result (K.contents sink.old) (K.contents sink.new) }
+    ensures shown { Tells (D.state disk.old) → AnsweredAll result → (journal : List Entry) × (found : List Outcome) × Shows (D.state disk.old).reads journal found }
     ensures opened { Tells (D.state disk.old) → (journal : List Entry) (found : List Outcome) (shown : Shows (D.state disk.old).reads journal found)
         → CheckEnd (base_of options (D.state disk.old).reads journal found shown) result (K.contents sink.old) (K.contents sink.new) }
     ensures at_exit { Tells (D.state disk.old) → (journal : List Entry) (found : List Outcome) (store : IsStore (D.state disk.old) journal found)
@@ -182,11 +184,14 @@ pub fn run_command<D: Disk, P: PatternShop, S: Source, K: Sink>(
     ensures unread { (store : List ℕ) (options : Options) → command_for words.now ≡ Command.Check store options → source.new ≡ source.old }
 
     // What the sink gained: with `Done` the whole output, where the script ends the run the answers of the
-    // lines that are run, and else a front of the output; from some opening on, whatever the disk tells, and from what the disk
-    // shows where it tells it.
-    ensures output { (base : Base) × CommandEnd (command_for words.now) base (S.left source.old) result (K.contents sink.old) (K.contents sink.new) }
+    // lines that are run, and else a front of the output; whatever the disk tells, from some opening with the limits that are
+    // asked for, and from what the disk shows where it tells it.
+    ensures output { (base : Base) × HasLimits (options_of (command_for words.now)) base × CommandEnd (command_for words.now) base (S.left source.old) result (K.contents sink.old) (K.contents sink.new) }
     ensures opened { Tells (D.state disk.old) → (journal : List Entry) (found : List Outcome) (shown : Shows (D.state disk.old).reads journal found) →
         CommandEnd (command_for words.now) (base_of (options_of (command_for words.now)) (D.state disk.old).reads journal found shown) (S.left source.old) result (K.contents sink.old) (K.contents sink.new) }
+
+    // Where each line that is run was answered, the disk showed a store.
+    ensures shown { Tells (D.state disk.old) → AnsweredAll result → (journal : List Entry) × (found : List Outcome) × Shows (D.state disk.old).reads journal found }
 
     // Where each line that is run was answered, each image that a crash may leave shows the state after all their events.
     ensures shows { Tells (D.state disk.old) → (journal : List Entry) (found : List Outcome) (store : IsStore (D.state disk.old) journal found) → AnsweredAll result →

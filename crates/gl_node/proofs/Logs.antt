@@ -1,9 +1,9 @@
 -- What reading a log finds, in the node's words.
-use Rattle.std.proofs.Common.{◌≡◌, inl, inr, ◌⊎◌, ℕ, ◌+◌, List, [], ◌∷◌, ◌++◌, length, replicate, Bool, IsTrue, true, false, if◌then◌else◌, refl, sym, ◌∙◌, ap, subst, arith, length-append}
+use Rattle.std.proofs.Common.{◌≡◌, inl, inr, ◌⊎◌, ℕ, ◌+◌, List, [], ◌∷◌, ◌++◌, length, replicate, Bool, true, false, if◌then◌else◌, refl, sym, ◌∙◌, ap, subst, arith, length-append}
 use Rattle.std.proofs.lemmas.Bool.{false≢true}
 use Rattle.std.proofs.lemmas.Grind.{flat_map-append}
 use Rattle.std.proofs.lemmas.List.{append-nil, length-replicate}
-use Rattle.gl_outside.specs.Disk.{Image, DiskState, Tells}
+use Rattle.gl_outside.specs.Disk.{Image, DiskState}
 use Rattle.gl_gatelog.specs.declared.kind.Log.{Log}
 use Rattle.gl_gatelog.specs.declared.kind.LogFault.{LogFault}
 use Rattle.gl_gatelog.specs.declared.kind.LogFault.TheVariants as fault
@@ -16,9 +16,6 @@ use Rattle.gl_node.specs.declared.fault.OpenFault.TheVariants.{Damaged}
 use Rattle.gl_node.specs.Damage.{UnlawfulAt}
 use Rattle.gl_node.specs.Opening.{IsOf, open_fault_of}
 use Rattle.gl_node.proofs.Damages.{behind}
-
-pub still : (old new : DiskState) → new.tells ≡ old.tells → Tells old → Tells new
-still old new same tells = subst (λ (b : Bool). IsTrue b) (sym same) tells
 
 -- a fault that the node tells as damage is the log's
 pub damage_is : (log log2 : Log) (e : LogFault) (area at : ℕ) → open_fault_of log e ≡ Damaged log2 area at → (log2 ≡ log) × (e ≡ fault.Damaged area at)

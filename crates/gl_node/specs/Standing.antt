@@ -72,6 +72,11 @@ pub record AreOptions (options : Options) : Type 0 where
   pub index_least : 4096 ≤ options.index_limit
   pub index_most : options.index_limit ≤ 2 ^ 42
 
+-- what stood at an opening has the limits that were asked for
+pub record HasLimits (options : Options) (base : Base) : Type 0 where
+  pub journal : base.journal_limit ≡ options.journal_limit
+  pub index : base.index_limit ≡ options.index_limit
+
 -- behind where its reading ends a log has nothing, in every image that the disk may leave
 abbrev pub IsAlone : Log → Option ℕ → List Batch → DiskState → Type 0
 IsAlone log segment batches disk = (c : Image) → disk.may_leave c → EndsThere log c segment batches

@@ -12,7 +12,7 @@ ghost use Rattle.gl_node.specs.Calls.{HasNodeCause};
 ghost use Rattle.gl_node.specs.Moments.{LeftBy, LeftSince};
 ghost use Rattle.gl_node.specs.Node.{IsRunning, IsStoppedAt, Keeps, NodeOn, NodeReady};
 ghost use Rattle.gl_node.specs.Damage.{IsDamaged};
-ghost use Rattle.gl_node.specs.Standing.{AreOptions, IsStore, Shows, StandsFor, base_of};
+ghost use Rattle.gl_node.specs.Standing.{AreOptions, HasLimits, IsStore, Shows, StandsFor, base_of};
 ghost use Rattle.gl_node.specs.State.{Base, State, commit_count, opened, outcomes, state_after};
 
 use crate::answer::{Arrival, Claimed, Finished};
@@ -69,8 +69,8 @@ impl Node {
     /// alone, and after an error nothing is lost that the disk held.
     pub fn open<D: Disk>(alloc: Global, disk: &mut D, options: Options) -> Result<Node, OpenFault>
         requires { AreOptions options }
-        // Whatever the disk tells, the node keeps what stood at some opening, and nothing more.
-        ensures kept { IfOk result (λ node. IsRunning node × ((base : Base) × Keeps node (opened base))) }
+        // Whatever the disk tells, the node keeps what stood at some opening with the limits that were asked for, and nothing more.
+        ensures kept { IfOk result (λ node. IsRunning node × ((base : Base) × HasLimits options base × Keeps node (opened base))) }
         // It is what the disk shows.
         ensures opened { Tells (D.state disk.old) → (journal : List Entry) (found : List Outcome) (shown : Shows (D.state disk.old).reads journal found)
             → IfOk result (λ node. Keeps node (opened (base_of options (D.state disk.old).reads journal found shown))) }

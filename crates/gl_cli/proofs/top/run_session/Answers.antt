@@ -11,7 +11,7 @@ use Rattle.gl_cli.proofs.Desks.{ok_is_no_error}
 use Rattle.gl_cli.specs.Runs.{all_events, script_turns}
 use Rattle.gl_cli.proofs.Exits.{IfSome-with, tells_other, unanswered}
 use Rattle.gl_cli.proofs.Openings.{ends_unread, IfSome-any, Keeps-same, open_other, open_statuses, run_statuses, runs_undamaged, other_undone, damaged_by, says_damaged, causes_open}
-use Rattle.gl_cli.proofs.Starts.{any_base, then_moments, unopened_exit, unopened_moments}
+use Rattle.gl_cli.proofs.Starts.{any_base, any_limits, then_moments, unopened_exit, unopened_moments}
 use Rattle.gl_cli.proofs.top.run_session.Goals as goal
 
 pub returns-in-Err-clause-statuses : goal.returns-in-Err-clause-statuses
@@ -28,15 +28,19 @@ returns-in-Err-clause-whole g c = λ done. absurd (other_undone c.open_status.re
 
 pub returns-in-Err-clause-output : goal.returns-in-Err-clause-output
 returns-in-Err-clause-output g c = (
-  any_base,
+  any_base c.args.options,
+  any_limits c.args.options,
   IfSome-any (g.S.Source.left c.args.source.now) (λ script.
-      ends_unread any_base script (g.K.Sink.contents c.args.sink.now) c.open_status.result (open_other c.in-Err.fault c.open_status.result c.open_status.ensures)),
+      ends_unread (any_base c.args.options) script (g.K.Sink.contents c.args.sink.now) c.open_status.result (open_other c.in-Err.fault c.open_status.result c.open_status.ensures)),
 )
 
 pub returns-in-Err-clause-opened : goal.returns-in-Err-clause-opened
 returns-in-Err-clause-opened g c = λ tells journal found shown. IfSome-any (g.S.Source.left c.args.source.now) (λ script.
     ends_unread (base_of c.args.options (g.D.Disk.state c.args.disk.now).reads journal found shown) script (g.K.Sink.contents c.args.sink.now) c.open_status.result
     (open_other c.in-Err.fault c.open_status.result c.open_status.ensures))
+
+pub returns-in-Err-clause-shown : goal.returns-in-Err-clause-shown
+returns-in-Err-clause-shown g c = λ tells all. absurd (unanswered c.open_status.result (open_other c.in-Err.fault c.open_status.result c.open_status.ensures) all)
 
 pub returns-in-Err-clause-shows : goal.returns-in-Err-clause-shows
 returns-in-Err-clause-shows g c = λ tells journal found store all. absurd (unanswered c.open_status.result (open_other c.in-Err.fault c.open_status.result c.open_status.ensures) all)
@@ -64,7 +68,7 @@ returns-in-Err-clause-damaged_store g c = λ tells log area at is. (
 
 pub session-requires-clause-keeps : goal.session-requires-clause-keeps
 session-requires-clause-keeps g c =
-    (opened c.in-Ok.ensures.kept.1.0, c.new-desk.ensures.keeps c.in-Ok.ensures.kept.1.0 c.in-Ok.ensures.kept.1.1 c.in-Ok.ensures.kept.0)
+    (opened c.in-Ok.ensures.kept.1.0, c.new-desk.ensures.keeps c.in-Ok.ensures.kept.1.0 c.in-Ok.ensures.kept.1.2 c.in-Ok.ensures.kept.0)
 
 pub session-requires-clause-ready : goal.session-requires-clause-ready
 session-requires-clause-ready g c = λ tells.
@@ -84,13 +88,17 @@ returns-in-Ok-clause-causes g c =
 pub returns-in-Ok-clause-output : goal.returns-in-Ok-clause-output
 returns-in-Ok-clause-output g c = (
   c.in-Ok.ensures.kept.1.0,
-  c.session.ensures.end c.in-Ok.ensures.kept.1.0 (c.new-desk.ensures.keeps c.in-Ok.ensures.kept.1.0 c.in-Ok.ensures.kept.1.1 c.in-Ok.ensures.kept.0),
+  c.in-Ok.ensures.kept.1.1,
+  c.session.ensures.end c.in-Ok.ensures.kept.1.0 (c.new-desk.ensures.keeps c.in-Ok.ensures.kept.1.0 c.in-Ok.ensures.kept.1.2 c.in-Ok.ensures.kept.0),
 )
 
 pub returns-in-Ok-clause-opened : goal.returns-in-Ok-clause-opened
 returns-in-Ok-clause-opened g c = λ tells journal found shown.
     c.session.ensures.end (base_of c.args.options (g.D.Disk.state c.args.disk.now).reads journal found shown)
     (c.new-desk.ensures.keeps (base_of c.args.options (g.D.Disk.state c.args.disk.now).reads journal found shown) (c.in-Ok.ensures.opened tells journal found shown) c.in-Ok.ensures.kept.0)
+
+pub returns-in-Ok-clause-shown : goal.returns-in-Ok-clause-shown
+returns-in-Ok-clause-shown g c = λ tells all. c.in-Ok.ensures.shown tells
 
 pub returns-in-Ok-clause-shows : goal.returns-in-Ok-clause-shows
 returns-in-Ok-clause-shows g c = λ tells journal found store done.

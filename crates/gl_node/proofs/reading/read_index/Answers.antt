@@ -8,7 +8,8 @@ use Rattle.gl_gatelog.specs.Log.{records_of}
 use Rattle.gl_gatelog.specs.View.{batch_of}
 use Rattle.gl_gatelog.specs.Progress.{HasRead, HasEnded, IsFurther, IsNoFurther}
 use Rattle.gl_gatelog.proofs.Reopening.{only_read_on, unchanged_on}
-use Rattle.gl_node.proofs.Logs.{batch_damage, next_damage, of_further, records_push, still}
+use Rattle.gl_outside.proofs.Telling.{still}
+use Rattle.gl_node.proofs.Logs.{batch_damage, next_damage, of_further, records_push}
 use Rattle.std.proofs.Common.{length-append}
 use Rattle.gl_fields.specs.Outcomes.{outcome_bytes}
 use Rattle.gl_node.specs.Damage.{AreOutcomes}

@@ -2,7 +2,7 @@ use Rattle.std.proofs.Common.{◌≡◌, sym, subst, ap}
 use Rattle.gl_outside.specs.Disk.{DiskState, LeavesOnly}
 use Rattle.gl_outside.proofs.Moments.{started}
 use Rattle.gl_gatelog.specs.declared.kind.Log.TheVariants.{Journal, Index}
-use Rattle.gl_node.proofs.Logs.{still}
+use Rattle.gl_outside.proofs.Telling.{still}
 use Rattle.gl_node.proofs.TakenUp.{apart_in, same_in, empty_still, read_still, index_apart, index_moments, journal_moments, journal_stands_on}
 use Rattle.gl_node.proofs.resuming.take_up.Goals as goal
 

@@ -3,7 +3,7 @@ use Rattle.gl_gatelog.specs.declared.kind.Log.TheVariants.{Journal, Index}
 use Rattle.gl_gatelog.specs.View.{GateView}
 use Rattle.gl_gatelog.proofs.Reopening.{only_read_on, unchanged_on}
 use Rattle.gl_node.specs.declared.fault.OpenFault.{OpenFault}
-use Rattle.gl_node.proofs.Logs.{still}
+use Rattle.gl_outside.proofs.Telling.{still}
 use Rattle.gl_node.proofs.Openings.{both_found, both_read, first_beyond, second_beyond, index_damaged, journal_damaged, not_damaged, refused_as, refuses, shows_read, taken_exit, taken_moments, told_is}
 use Rattle.gl_node.proofs.Reopened.{at_logs, base_read, keeps_opened, keeps_shown, runs_read}
 use Rattle.gl_node.proofs.node.Node.open.Goals as goal
@@ -77,6 +77,7 @@ returns-clause-kept g c =
       refl,
       (
         base_read c.args.options c.in_ok-journal.journal c.in_ok-index.index c.in_ok-journal.entries.items c.in_ok-index.outcomes.items,
+        record { journal = refl; index = refl },
         keeps_opened _ (base_read c.args.options c.in_ok-journal.journal c.in_ok-index.index c.in_ok-journal.entries.items c.in_ok-index.outcomes.items) refl refl c.in_ok-config.ensures
             j.1 i.1 (omega (arith, i.2, c.len.ensures)) c.new.ensures.items c.new-2.ensures.items (omega (arith, c.len-next.ensures))
             (at_logs Journal (c.in_ok-journal-2.journal) c.args.options.segment c.args.options.journal_limit (length c.in_ok-journal.entries.items) c.in_ok-journal.journal j.0 c.in_ok-journal-2.ensures.value.0)
