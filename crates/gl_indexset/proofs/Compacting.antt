@@ -1,58 +1,45 @@
--- The rows that stay move up in a list, one after another.
-use Rattle.std.proofs.Common.{◌≡◌, ◌⊎◌, ⊎_elim, ℕ, suc, ◌+◌, ◌<◌, ◌≤◌, Bool, true, false, cond, List, [], ◌∷◌, ◌++◌, length, get_or, filter, take, drop, Some, refl, sym, ◌∙◌, ap, subst, arith}
-use Rattle.std.specs.Prelude.{slice_set}
-use Rattle.std.specs.List.{swap, remove_range, slice_get}
+-- The rows that don't pass leave a list, one after another.
+use Rattle.std.proofs.Common.{◌≡◌, ◌⊎◌, ⊎_elim, ℕ, zero, suc, ◌+◌, ◌<◌, ◌≤◌, Bool, true, false, cond, List, [], ◌∷◌, ◌++◌, length, get_or, filter, take, drop, Some, refl, sym, ◌∙◌, ap, subst, arith}
+use Rattle.std.specs.List.{remove, slice_get}
 use Rattle.std.proofs.Math.Seq.{drop-cons}
-use Rattle.std.proofs.lemmas.List.{append-nil, length-drop, length-set, length-take, get_or-drop, get_or-take, take-append-drop, take-set, take-set-le, take_more, take_more_set, drop-set-lt}
+use Rattle.std.proofs.lemmas.List.{append-nil, length-drop, length-take, get_or-drop, get_or-take, take-append-drop, take_more}
 use Rattle.std.proofs.lemmas.List.Elements.{filter-append}
 use Rattle.std.proofs.lemmas.Option.{get_or_from_slice_get}
 use Rattle.gl_indexset.specs.declared.row.Row.{Row}
 use Rattle.gl_indexset.proofs.Sweeping.{filter_all}
 
 module _ {X : Type 0} where
-  -- the first of two places has what the second had, and behind them nothing changed
-  pub swapped_front : (xs : List X) (a b : ℕ) (x : X) → a ≤ b → b < length xs → slice_get xs b ≡ Some x → take (a + 1) (swap xs a b) ≡ take a xs ++ x ∷ []
-  swapped_front [] a b x le lt is = absurd (omega arith)
-  swapped_front (y ∷ ys) a b x le lt is = ⊎_elim
-      (λ (less : a < b).
-      take-set-le (a + 1) (slice_set (y ∷ ys) a (get_or (y ∷ ys) b y)) b (get_or (y ∷ ys) a y) (omega arith)
-      ∙ take_more_set (y ∷ ys) a (get_or (y ∷ ys) b y) (omega arith)
-      ∙ ap (λ (z : X). take a (y ∷ ys) ++ z ∷ []) (get_or_from_slice_get (y ∷ ys) b x y is))
-      (λ (same : a ≡ b).
-      ap (λ n. take (a + 1) (slice_set (slice_set (y ∷ ys) a (get_or (y ∷ ys) b y)) n (get_or (y ∷ ys) a y))) (sym same)
-      ∙ take_more_set (slice_set (y ∷ ys) a (get_or (y ∷ ys) b y)) a (get_or (y ∷ ys) a y) (omega (arith, length-set (y ∷ ys) a (get_or (y ∷ ys) b y)))
-      ∙ ap (λ (l : List X). l ++ get_or (y ∷ ys) a y ∷ []) (take-set (y ∷ ys) a (get_or (y ∷ ys) b y))
-      ∙ ap (λ (z : X). take a (y ∷ ys) ++ z ∷ []) (ap (λ n. get_or (y ∷ ys) n y) same ∙ get_or_from_slice_get (y ∷ ys) b x y is))
-      (two_ways a b le)
+  -- from one place on a list is as another from another place on
+  rest_split : (xs ys : List X) (m n : ℕ) (x : X) → n < length ys → drop m xs ≡ drop n ys → slice_get xs m ≡ Some x → (m < length xs) × ((get_or ys n x ≡ x) × (drop (m + 1) xs ≡ drop (n + 1) ys))
+  rest_split xs ys m n x lt same is =
+      let small : m < length xs = omega (arith, ap (λ (l : List X). length l) same, length-drop m xs, length-drop n ys, lt) in
+      let both : get_or xs m x ∷ drop (suc m) xs ≡ get_or ys n x ∷ drop (suc n) ys = sym (drop-cons xs m x small) ∙ same ∙ drop-cons ys n x lt in (
+        small,
+        (
+          heads (get_or xs m x) (get_or ys n x) (drop (suc m) xs) (drop (suc n) ys) both ∙ get_or_from_slice_get xs m x x is,
+          ap (λ k. drop k xs) (next m) ∙ tails (get_or xs m x) (get_or ys n x) (drop (suc m) xs) (drop (suc n) ys) both ∙ ap (λ k. drop k ys) (sym (next n)),
+        ),
+      )
     where
-      two_ways : (m n : ℕ) → m ≤ n → (m < n) ⊎ (m ≡ n)
-      two_ways m n h = grind arith
-
-  pub swapped_rest : (xs : List X) (a b : ℕ) → a ≤ b → drop (b + 1) (swap xs a b) ≡ drop (b + 1) xs
-  swapped_rest [] a b le = refl
-  swapped_rest (y ∷ ys) a b le =
-      drop-set-lt (b + 1) (slice_set (y ∷ ys) a (get_or (y ∷ ys) b y)) b (get_or (y ∷ ys) a y) (omega arith)
-      ∙ drop-set-lt (b + 1) (y ∷ ys) a (get_or (y ∷ ys) b y) (omega arith)
-
-  pub swapped_length : (xs : List X) (a b : ℕ) → length (swap xs a b) ≡ length xs
-  swapped_length [] a b = refl
-  swapped_length (y ∷ ys) a b =
-      length-set (slice_set (y ∷ ys) a (get_or (y ∷ ys) b y)) b (get_or (y ∷ ys) a y) ∙ length-set (y ∷ ys) a (get_or (y ∷ ys) b y)
-
-  -- behind a place two lists are the same
-  rest_split : (xs ys : List X) (n : ℕ) (x : X) → n < length xs → n < length ys → drop n xs ≡ drop n ys → slice_get xs n ≡ Some x → (get_or ys n x ≡ x) × (drop (n + 1) xs ≡ drop (n + 1) ys)
-  rest_split xs ys n x small lt same is =
-      let both : get_or xs n x ∷ drop (suc n) xs ≡ get_or ys n x ∷ drop (suc n) ys = sym (drop-cons xs n x small) ∙ same ∙ drop-cons ys n x lt in
-      (heads (get_or xs n x) (get_or ys n x) (drop (suc n) xs) (drop (suc n) ys) both ∙ get_or_from_slice_get xs n x x is, ap (λ m. drop m xs) (next n) ∙ tails (get_or xs n x) (get_or ys n x) (drop (suc n) xs) (drop (suc n) ys) both ∙ ap (λ m. drop m ys) (sym (next n)))
-    where
-      next : (m : ℕ) → m + 1 ≡ suc m
-      next m = omega arith
+      next : (k : ℕ) → k + 1 ≡ suc k
+      next k = omega arith
 
       heads : (a b : X) (l m : List X) → a ∷ l ≡ b ∷ m → b ≡ a
       heads a b l m h = cc h
 
       tails : (a b : X) (l m : List X) → a ∷ l ≡ b ∷ m → l ≡ m
       tails a b l m h = cc h
+
+  -- a list without one of its elements, in front of its place and from there on
+  front_without : (xs : List X) (n : ℕ) → n < length xs → take n (remove xs n) ≡ take n xs
+  front_without [] n lt = absurd (omega (arith, lt))
+  front_without (x ∷ xs) zero lt = refl
+  front_without (x ∷ xs) (suc n) lt = ap (λ (l : List X). x ∷ l) (front_without xs n (omega (arith, lt)))
+
+  rest_without : (xs : List X) (n : ℕ) → n < length xs → drop n (remove xs n) ≡ drop (suc n) xs
+  rest_without [] n lt = absurd (omega (arith, lt))
+  rest_without (x ∷ xs) zero lt = refl
+  rest_without (x ∷ xs) (suc n) lt = rest_without xs n (omega (arith, lt))
 
   module _ (p : X → Bool) where
     filter_more : (xs : List X) (n : ℕ) (x : X) → n < length xs → get_or xs n x ≡ x → filter p (take (n + 1) xs) ≡ filter p (take n xs) ++ filter p (x ∷ [])
@@ -65,30 +52,35 @@ module _ {X : Type 0} where
     if_fails : (x : X) → p x ≡ false → filter p (x ∷ []) ≡ []
     if_fails x is = ap (λ b. cond b (x ∷ []) []) is
 
-    module _ (init xs : List X) (kept n : ℕ) (x : X) (order : kept ≤ n) (small : n < length xs) (long : length xs ≡ length init)
-        (front : take kept xs ≡ filter p (take n init)) (rest : drop n xs ≡ drop n init) (is : slice_get xs n ≡ Some x) where
-      here : (get_or init n x ≡ x) × (drop (n + 1) xs ≡ drop (n + 1) init)
-      here = rest_split xs init n x small (omega (arith, small, long)) rest is
+    module _ (init xs : List X) (kept n : ℕ) (x : X) (lt : n < length init)
+        (front : take kept xs ≡ filter p (take n init)) (rest : drop kept xs ≡ drop n init) (is : slice_get xs kept ≡ Some x) where
+      here : (kept < length xs) × ((get_or init n x ≡ x) × (drop (kept + 1) xs ≡ drop (n + 1) init))
+      here = rest_split xs init kept n x lt rest is
 
-      pub front_kept : p x ≡ true → take (kept + 1) (swap xs kept n) ≡ filter p (take (n + 1) init)
+      pub front_kept : p x ≡ true → take (kept + 1) xs ≡ filter p (take (n + 1) init)
       front_kept passes =
-          swapped_front xs kept n x order small is
+          take_more xs kept x here.0
+          ∙ ap (λ (z : X). take kept xs ++ z ∷ []) (get_or_from_slice_get xs kept x x is)
           ∙ ap (λ (l : List X). l ++ x ∷ []) front
           ∙ ap (λ (l : List X). filter p (take n init) ++ l) (sym (if_passes x passes))
-          ∙ sym (filter_more init n x (omega (arith, small, long)) here.0)
+          ∙ sym (filter_more init n x lt here.1.0)
 
-      pub rest_kept : drop (n + 1) (swap xs kept n) ≡ drop (n + 1) init
-      rest_kept = swapped_rest xs kept n order ∙ here.1
+      pub rest_kept : drop (kept + 1) xs ≡ drop (n + 1) init
+      rest_kept = here.1.1
 
-      pub front_dropped : p x ≡ false → take kept xs ≡ filter p (take (n + 1) init)
+      pub front_dropped : p x ≡ false → take kept (remove xs kept) ≡ filter p (take (n + 1) init)
       front_dropped fails =
-          front
+          front_without xs kept here.0
+          ∙ front
           ∙ sym (append-nil (filter p (take n init)))
           ∙ ap (λ (l : List X). filter p (take n init) ++ l) (sym (if_fails x fails))
-          ∙ sym (filter_more init n x (omega (arith, small, long)) here.0)
+          ∙ sym (filter_more init n x lt here.1.0)
 
-      pub rest_dropped : drop (n + 1) xs ≡ drop (n + 1) init
-      rest_dropped = here.1
+      pub rest_dropped : drop kept (remove xs kept) ≡ drop (n + 1) init
+      rest_dropped = rest_without xs kept here.0 ∙ ap (λ m. drop m xs) (next kept) ∙ here.1.1
+        where
+          next : (m : ℕ) → suc m ≡ m + 1
+          next m = omega arith
 
     -- all before the first place pass
     pub front_first : (init : List X) (n : ℕ) → n ≤ length init → ((k : ℕ) (d : X) → k < n → p (get_or init k d) ≡ true) → take n init ≡ filter p (take n init)
@@ -97,10 +89,11 @@ module _ {X : Type 0} where
         subst (λ (z : X). p z ≡ true) (sym (get_or-take n init k d less)) (passes k d less)))
 
     -- and all behind the last one
-    pub compacted : (init xs : List X) (kept n : ℕ) → take kept xs ≡ filter p (take n init) → drop n xs ≡ drop n init
-        → ((k : ℕ) (d : X) → n ≤ k → k < length init → p (get_or init k d) ≡ true) → remove_range xs kept n ≡ filter p init
-    compacted init xs kept n front rest passes =
-        ap (λ (l : List X). l ++ drop n xs) front
+    pub all_kept : (init xs : List X) (kept n : ℕ) → take kept xs ≡ filter p (take n init) → drop kept xs ≡ drop n init
+        → ((k : ℕ) (d : X) → n ≤ k → k < length init → p (get_or init k d) ≡ true) → xs ≡ filter p init
+    all_kept init xs kept n front rest passes =
+        sym (take-append-drop kept xs)
+        ∙ ap (λ (l : List X). l ++ drop kept xs) front
         ∙ ap (λ (l : List X). filter p (take n init) ++ l) (rest ∙ sym behind)
         ∙ sym (filter-append p (take n init) (drop n init))
         ∙ ap (λ (l : List X). filter p l) (take-append-drop n init)

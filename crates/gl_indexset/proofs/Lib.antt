@@ -4,7 +4,9 @@ pub mod Departing
 pub mod Keeping
 pub mod Listing
 pub mod Numbering
+pub mod Ranking
 pub mod Rooms
+pub mod Shelving
 pub mod Standing
 pub mod Storing
 pub mod Sweeping

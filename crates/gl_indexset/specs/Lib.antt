@@ -1,6 +1,7 @@
 pub mod Inside
 pub mod Kept
 pub mod Leaving
+pub mod Ranks
 pub mod Retention
 pub mod Rising
 pub mod SetKept

@@ -8,6 +8,7 @@
 #![tactic(auto)]
 
 mod leaving;
+mod ranks;
 mod row;
 mod set;
 mod sets;

@@ -50,12 +50,12 @@ fn sweep(rows: &mut Shelf, sets: &[IndexSet], from: u64, to: u64)
     let last = first_from(rows, to);
     let mut kept = first;
     for n in first..last {
-        if is_held(sets, rows.get(n)) {
-            rows.swap(kept, n);
+        if is_held(sets, rows.get(kept)) {
             kept += 1;
+        } else {
+            rows.remove(kept);
         }
     }
-    rows.remove_range(kept, last);
 }
 
 // Stores a row in the set at an index, where it names it, and takes out the rows that are live in no set any more.

@@ -1,12 +1,11 @@
-use Rattle.std.proofs.Common.{◌≡◌, ◌≤◌, filter, length, take, drop}
+use Rattle.std.proofs.Common.{◌≡◌, ◌≤◌, filter, take, drop}
 use Rattle.gl_indexset.specs.SetKept.{is_held}
 use Rattle.gl_indexset.proofs.sweep.sweep.Given as goal
 
 abbrev pub invariant-loop-n : goal.invariant-loop-n
 invariant-loop-n l = record {
   order : l.kept ≤ l.n;
-  long : length l.rows.rows ≡ length l.fn.rows.rows;
   front : take l.kept l.rows.rows ≡ filter (is_held l.sets) (take l.n l.fn.rows.rows);
-  rest : drop l.n l.rows.rows ≡ drop l.n l.fn.rows.rows;
+  rest : drop l.kept l.rows.rows ≡ drop l.n l.fn.rows.rows;
   spare : l.fn.rows.spare ≤ l.rows.spare;
 }
