@@ -4,8 +4,8 @@ use Rattle.std.specs.Prelude.{Option, Some, None}
 use Rattle.std.specs.List.{concat, AllByRecursion}
 use Rattle.std.proofs.lemmas.List.{append-nil, append_assoc, length-append, take_more, take-append-drop, take_all}
 use Rattle.std.proofs.lemmas.List.Folds.{concat-append}
-use Rattle.gl_syslog.specs.declared.fed.Fed.{Fed}
-use Rattle.gl_syslog.specs.declared.fed.Fed.TheVariants.{Nothing, Whole, TooLong, Closed}
+use Rattle.gl_base.specs.declared.fed.Fed.{Fed}
+use Rattle.gl_base.specs.declared.fed.Fed.TheVariants.{Nothing, Whole, TooLong, Closed}
 use Rattle.gl_syslog.specs.LineFraming.{most, has_count, is_counted, is_open, part, IsUnit, frame_of, shown, frames_in, last_frame, Framed}
 use Rattle.gl_syslog.specs.Reader.{told}
 use Rattle.gl_syslog.proofs.Bools.{and_right}

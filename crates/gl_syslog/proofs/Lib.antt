@@ -14,3 +14,8 @@ pub mod Printable
 pub mod Elements
 pub mod Messages
 pub mod Unique
+pub mod Words
+pub mod Years
+pub mod BsdTexts
+pub mod Puts
+pub mod FramesOfBytes

@@ -7,7 +7,8 @@ use Rattle.std.specs.Str.{bytes_eq}
 use Rattle.std.proofs.lemmas.List.Folds.{length-prefix_len}
 use Rattle.gl_syslog.specs.declared.parts.Stamp.{Stamp}
 use Rattle.gl_syslog.specs.declared.parts.Parts.{Parts}
-use Rattle.gl_syslog.specs.Digits.{is_digit, decimal}
+use Rattle.std.specs.Char.{is_ascii_digit}
+use Rattle.gl_base.specs.Digits.{decimal}
 use Rattle.gl_syslog.specs.Sections.{pri_value, pri_in, two_at, hour_minute_at, clock_at, is_date, date_at, fraction_at, minutes, shift_of, offset_of, time_of, stamp_of}
 use Rattle.gl_syslog.specs.Reading.{are_distinct, ids_of}
 use Rattle.gl_syslog.specs.Rfc5424.{has_none, IsSection, Reads5424}
@@ -21,9 +22,9 @@ use Rattle.gl_syslog.proofs.Stamps.{digit_so, stamp_so}
 -- the priority
 record IsPri (digits : List ℕ) (pri : ℕ) : Type 0 where
   value : pri_value digits ≡ Some pri
-  all : list_all is_digit digits ≡ true
+  all : list_all is_ascii_digit digits ≡ true
 
-pri_of : (digits : List ℕ) (pri : ℕ) → nat_lt 0 (length digits) ≡ true → nat_le (length digits) 3 ≡ true → list_all is_digit digits ≡ true → (not (eqb (get_or digits 0 0) 48) || eqb (length digits) 1) ≡ true
+pri_of : (digits : List ℕ) (pri : ℕ) → nat_lt 0 (length digits) ≡ true → nat_le (length digits) 3 ≡ true → list_all is_ascii_digit digits ≡ true → (not (eqb (get_or digits 0 0) 48) || eqb (length digits) 1) ≡ true
     → decimal 0 digits ≡ pri → nat_le pri 191 ≡ true → IsPri digits pri
 unfolding pri_value
 pri_of digits pri some few all front value small = record { value = rw (some, few, all, front, value, small) refl; all = all }
@@ -36,13 +37,13 @@ pri_one : (p : ℕ) → p < 10 → IsPri ((48 + p) ∷ []) p
 pri_one p h =
     let value : 0 * 10 + (48 + p - 48) ≡ p = omega arith in
     let small : nat_le p 191 ≡ true = grind arith in
-    pri_of ((48 + p) ∷ []) p refl refl (and_holds (is_digit (48 + p)) true (digit_so p h) refl) (or_right (not (eqb (48 + p) 48))) value small
+    pri_of ((48 + p) ∷ []) p refl refl (and_holds (is_ascii_digit (48 + p)) true (digit_so p h) refl) (or_right (not (eqb (48 + p) 48))) value small
 
-two_all : (n : ℕ) → n ≤ 99 → list_all is_digit (two_digits n) ≡ true
+two_all : (n : ℕ) → n ≤ 99 → list_all is_ascii_digit (two_digits n) ≡ true
 two_all n h =
     let tens : n / 10 < 10 = omega arith in
     let ones : n % 10 < 10 = omega arith in
-    and_holds (is_digit (48 + n / 10)) (is_digit (48 + n % 10) && true) (digit_so (n / 10) tens) (and_holds (is_digit (48 + n % 10)) true (digit_so (n % 10) ones) refl)
+    and_holds (is_ascii_digit (48 + n / 10)) (is_ascii_digit (48 + n % 10) && true) (digit_so (n / 10) tens) (and_holds (is_ascii_digit (48 + n % 10)) true (digit_so (n % 10) ones) refl)
 
 pri_two : (p : ℕ) → 10 ≤ p → p < 100 → IsPri (two_digits p) p
 pri_two p low h =
@@ -58,7 +59,7 @@ pri_three p low h =
     let small : nat_le p 191 ≡ true = grind arith in
     let hundreds : p / 100 ≡ 1 = omega arith in
     let front : eqb (48 + p / 100) 48 ≡ false = grind arith in
-    pri_of ((48 + p / 100) ∷ two_digits (p % 100)) p refl refl (and_holds (is_digit (48 + p / 100)) (list_all is_digit (two_digits (p % 100))) (digit_so (p / 100) (omega (arith, hundreds))) (two_all (p % 100) (omega arith)))
+    pri_of ((48 + p / 100) ∷ two_digits (p % 100)) p refl refl (and_holds (is_ascii_digit (48 + p / 100)) (list_all is_ascii_digit (two_digits (p % 100))) (digit_so (p / 100) (omega (arith, hundreds))) (two_all (p % 100) (omega arith)))
     (ap (λ (b : Bool). not b || false) front) value small
 
 pri_cases : (s t : Bool) (p : ℕ) → nat_lt p 10 ≡ s → nat_lt p 100 ≡ t → p ≤ 191 → IsPri (cond s ((48 + p) ∷ []) (cond t (two_digits p) ((48 + p / 100) ∷ two_digits (p % 100)))) p
@@ -66,10 +67,10 @@ pri_cases true t p a b h = pri_one p (grind arith)
 pri_cases false true p a b h = pri_two p (grind arith) (grind arith)
 pri_cases false false p a b h = pri_three p (grind arith) h
 
-digits_none : (ds : List ℕ) → list_all is_digit ds ≡ true → has_none 62 ds ≡ true
+digits_none : (ds : List ℕ) → list_all is_ascii_digit ds ≡ true → has_none 62 ds ≡ true
 digits_none [] all = refl
 digits_none (d ∷ ds) all =
-    let both = and_both (is_digit d) (list_all is_digit ds) all in
+    let both = and_both (is_ascii_digit d) (list_all is_ascii_digit ds) all in
     let one = both.0 in
     let other : eqb d 62 ≡ false = grind arith in
     none_cons 62 d ds other (digits_none ds both.1)
@@ -92,7 +93,7 @@ pri_lawful [] p h = absurd cc
 pri_lawful (b ∷ digits) p h = value_lawful digits p (if_some (eqb b 60) (pri_value digits) p h).1
 
 -- the time stamp
-two_bound : (a b : ℕ) → is_digit a ≡ true → is_digit b ≡ true → nat_le ((a - 48) * 10 + (b - 48)) 99 ≡ true
+two_bound : (a b : ℕ) → is_ascii_digit a ≡ true → is_ascii_digit b ≡ true → nat_le ((a - 48) * 10 + (b - 48)) 99 ≡ true
 two_bound a b h k = grind arith
 
 two_small : (at n : ℕ) (text : List ℕ) → two_at at text ≡ Some n → nat_le n 99 ≡ true
@@ -100,8 +101,8 @@ unfolding two_at
 two_small at n text h =
     let a = get_or text at 0 in
     let b = get_or text (at + 1) 0 in
-    let g = guard_ok (is_digit a && is_digit b) ((a - 48) * 10 + (b - 48)) n h in
-    let both = and_both (is_digit a) (is_digit b) g.0 in
+    let g = guard_ok (is_ascii_digit a && is_ascii_digit b) ((a - 48) * 10 + (b - 48)) n h in
+    let both = and_both (is_ascii_digit a) (is_ascii_digit b) g.0 in
     subst (λ (m : ℕ). nat_le m 99 ≡ true) g.1 (two_bound a b both.0 both.1)
 
 abbrev HourMinute : ℕ × ℕ → Type 0
@@ -156,22 +157,22 @@ date_small text x h =
     (and_holds (nat_le month 99) (nat_le day 99 && is_date year month day) (two_small 5 month text h3) (and_holds (nat_le day 99) (is_date year month day) (two_small 8 day text h4) is.1)))))))
 
 abbrev Fraction : List ℕ × List ℕ → Type 0
-Fraction x = (nat_le (length x.0) 6 && list_all is_digit x.0) ≡ true
+Fraction x = (nat_le (length x.0) 6 && list_all is_ascii_digit x.0) ≡ true
 
-fraction_step : (s t : Bool) (text behind : List ℕ) (x : List ℕ × List ℕ) → is_in_range 1 6 (prefix_len is_digit behind) ≡ t
-    → cond {A = Option (List ℕ × List ℕ)} s (cond t (Some (take (prefix_len is_digit behind) behind, drop (prefix_len is_digit behind) behind)) None) (Some ([], text)) ≡ Some x → Fraction x
+fraction_step : (s t : Bool) (text behind : List ℕ) (x : List ℕ × List ℕ) → is_in_range 1 6 (prefix_len is_ascii_digit behind) ≡ t
+    → cond {A = Option (List ℕ × List ℕ)} s (cond t (Some (take (prefix_len is_ascii_digit behind) behind, drop (prefix_len is_ascii_digit behind) behind)) None) (Some ([], text)) ≡ Some x → Fraction x
 fraction_step true true text behind x e h =
-    let n = prefix_len is_digit behind in
+    let n = prefix_len is_ascii_digit behind in
     let y : List ℕ × List ℕ = (take n behind, drop n behind) in
-    let len : length (take n behind) ≡ n = length-prefix_len is_digit behind in
+    let len : length (take n behind) ≡ n = length-prefix_len is_ascii_digit behind in
     let few : nat_le (length (take n behind)) 6 ≡ true = grind arith in
-    subst Fraction (some_is y x h) (and_holds (nat_le (length (take n behind)) 6) (list_all is_digit (take n behind)) few (prefix_passes is_digit behind))
+    subst Fraction (some_is y x h) (and_holds (nat_le (length (take n behind)) 6) (list_all is_ascii_digit (take n behind)) few (prefix_passes is_ascii_digit behind))
 fraction_step true false text behind x e h = absurd cc
 fraction_step false t text behind x e h = let y : List ℕ × List ℕ = ([], text) in subst Fraction (some_is y x h) refl
 
 fraction_small : (text : List ℕ) (x : List ℕ × List ℕ) → fraction_at text ≡ Some x → Fraction x
 unfolding fraction_at
-fraction_small text x h = fraction_step (eqb (get_or text 0 0) 46) (is_in_range 1 6 (prefix_len is_digit (drop 1 text))) text (drop 1 text) x refl h
+fraction_small text x h = fraction_step (eqb (get_or text 0 0) 46) (is_in_range 1 6 (prefix_len is_ascii_digit (drop 1 text))) text (drop 1 text) x refl h
 
 sign_step : (s : Bool) (n : ℕ) → nat_le n 1439 ≡ true → is_offset (Some (cond s (pos n) (neg_ℤ (pos n)))) ≡ true
 sign_step true n h = h

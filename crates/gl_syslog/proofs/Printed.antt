@@ -5,7 +5,8 @@ use Rattle.std.specs.List.{list_all}
 use Rattle.std.specs.Str.{bytes_eq}
 use Rattle.std.proofs.lemmas.List.{append_assoc}
 use Rattle.gl_syslog.specs.declared.parts.Element.{Element}
-use Rattle.gl_syslog.specs.Sections.{is_printable, name_of}
+use Rattle.std.specs.Char.{is_ascii_graphic}
+use Rattle.gl_syslog.specs.Sections.{name_of}
 use Rattle.gl_syslog.specs.Data.{is_special, value_len, unescaped, has_bom, without_bom, message_of}
 use Rattle.gl_syslog.specs.Rfc5424.{has_none, IsSection, AreMany, is_sd_name, IsSpelled, IsParam, IsElement, IsData, up_to}
 use Rattle.gl_syslog.specs.Printing.{name_text, is_name, escaped, param_text, params_text, element_text, elements_text, data_text, is_param, is_element, message_text, is_message}
@@ -94,10 +95,10 @@ data_lawful text (e ∷ es) is = elements_lawful text (e ∷ es) is
 pub none_cons : (c b : ℕ) (bs : List ℕ) → eqb b c ≡ false → has_none c bs ≡ true → has_none c (b ∷ bs) ≡ true
 none_cons c b bs e h = and_holds (not (eqb b c)) (has_none c bs) (ap not e) h
 
-printable_none : (t : List ℕ) → list_all is_printable t ≡ true → has_none 32 t ≡ true
+printable_none : (t : List ℕ) → list_all is_ascii_graphic t ≡ true → has_none 32 t ≡ true
 printable_none [] all = refl
 printable_none (b ∷ bs) all =
-    let both = and_both (is_printable b) (list_all is_printable bs) all in
+    let both = and_both (is_ascii_graphic b) (list_all is_ascii_graphic bs) all in
     let one = both.0 in
     let other : eqb b 32 ≡ false = grind arith in
     none_cons 32 b bs other (printable_none bs both.1)
@@ -111,22 +112,22 @@ unfolding name_of
 name_so most None is = record { none = refl; is = refl }
 name_so most (Some t) is =
     let size = nat_lt 0 (length t) && nat_le (length t) most in
-    let both = and_both (not (bytes_eq t (codes "-"))) (size && list_all is_printable t) is in
+    let both = and_both (not (bytes_eq t (codes "-"))) (size && list_all is_ascii_graphic t) is in
     let other : bytes_eq t (codes "-") ≡ false = not_so (bytes_eq t (codes "-")) both.0 in
-    let name = and_both size (list_all is_printable t) both.1 in
+    let name = and_both size (list_all is_ascii_graphic t) both.1 in
     record { none = printable_none t name.1; is = rw (other, both.1) refl }
 
-name_step : (s t : Bool) (most : ℕ) (text : List ℕ) (n : Option (List ℕ)) → bytes_eq text (codes "-") ≡ s → (nat_lt 0 (length text) && nat_le (length text) most && list_all is_printable text) ≡ t
+name_step : (s t : Bool) (most : ℕ) (text : List ℕ) (n : Option (List ℕ)) → bytes_eq text (codes "-") ≡ s → (nat_lt 0 (length text) && nat_le (length text) most && list_all is_ascii_graphic text) ≡ t
     → cond s (Some None) (cond t (Some (Some text)) None) ≡ Some n → is_name most n ≡ true
 name_step true t most text n e k h = subst (λ (m : Option (List ℕ)). is_name most m ≡ true) (some_is None n h) refl
 name_step false true most text n e k h =
     subst (λ (m : Option (List ℕ)). is_name most m ≡ true) (some_is (Some text) n h)
-    (and_holds (not (bytes_eq text (codes "-"))) (nat_lt 0 (length text) && nat_le (length text) most && list_all is_printable text) (ap not e) k)
+    (and_holds (not (bytes_eq text (codes "-"))) (nat_lt 0 (length text) && nat_le (length text) most && list_all is_ascii_graphic text) (ap not e) k)
 name_step false false most text n e k h = absurd cc
 
 pub name_lawful : (most : ℕ) (text : List ℕ) (n : Option (List ℕ)) → name_of most text ≡ Some n → is_name most n ≡ true
 unfolding name_of
-name_lawful most text n h = name_step (bytes_eq text (codes "-")) (nat_lt 0 (length text) && nat_le (length text) most && list_all is_printable text) most text n refl refl h
+name_lawful most text n h = name_step (bytes_eq text (codes "-")) (nat_lt 0 (length text) && nat_le (length text) most && list_all is_ascii_graphic text) most text n refl refl h
 
 pub message_so : (bom : Bool) (msg : Option (List ℕ)) → is_message bom msg ≡ true → message_of (message_text bom msg) ≡ Some (bom, msg)
 unfolding message_of

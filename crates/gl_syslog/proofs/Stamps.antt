@@ -6,7 +6,7 @@ use Rattle.std.specs.List.{list_all, prefix_len}
 use Rattle.std.specs.Str.{bytes_eq}
 use Rattle.std.proofs.Math.Seq.{take-append_seam, drop-append_seam}
 use Rattle.gl_syslog.specs.declared.parts.Stamp.{Stamp}
-use Rattle.gl_syslog.specs.Digits.{is_digit}
+use Rattle.std.specs.Char.{is_ascii_digit}
 use Rattle.gl_syslog.specs.Sections.{two_at, hour_minute_at, clock_at, is_date, date_at, fraction_at, shift_of, offset_of, time_of, stamp_of}
 use Rattle.gl_syslog.specs.Rfc5424.{has_none, IsSection}
 use Rattle.gl_syslog.specs.Printing.{two_digits, hours_minutes, offset_text, is_offset, fraction_text, date_text, clock_text, time_text, is_moment, is_time, stamp_text, is_stamp}
@@ -14,7 +14,7 @@ use Rattle.gl_syslog.proofs.Bools.{and_both}
 use Rattle.gl_syslog.proofs.Peel.{prefix_seam}
 use Rattle.gl_syslog.proofs.Printed.{none_cons}
 
-pub digit_so : (n : ℕ) → n < 10 → is_digit (48 + n) ≡ true
+pub digit_so : (n : ℕ) → n < 10 → is_ascii_digit (48 + n) ≡ true
 digit_so n h = grind arith
 
 less_so : (n m : ℕ) → n ≤ m → nat_le n m ≡ true
@@ -50,11 +50,11 @@ date_read : (y m d : ℕ) (text : List ℕ) → is_date y m d ≡ true → two_a
 unfolding date_at
 date_read y m d text is a b e f p q = rw (a, b, e, f, p, q, year_so y, is) refl
 
-fraction_read : (ds : List ℕ) (y : ℕ) (ys : List ℕ) → length ds ≤ 6 → list_all is_digit ds ≡ true → is_digit y ≡ false → eqb y 46 ≡ false → fraction_at (fraction_text ds ++ y ∷ ys) ≡ Some (ds, y ∷ ys)
+fraction_read : (ds : List ℕ) (y : ℕ) (ys : List ℕ) → length ds ≤ 6 → list_all is_ascii_digit ds ≡ true → is_ascii_digit y ≡ false → eqb y 46 ≡ false → fraction_at (fraction_text ds ++ y ∷ ys) ≡ Some (ds, y ∷ ys)
 unfolding fraction_at
 fraction_read [] y ys few all other point = rw point refl
 fraction_read (d ∷ ds) y ys few all other point =
-    let n : prefix_len is_digit ((d ∷ ds) ++ y ∷ ys) ≡ length (d ∷ ds) = prefix_seam is_digit (d ∷ ds) y ys all other in
+    let n : prefix_len is_ascii_digit ((d ∷ ds) ++ y ∷ ys) ≡ length (d ∷ ds) = prefix_seam is_ascii_digit (d ∷ ds) y ys all other in
     let range : is_in_range 1 6 (length (d ∷ ds)) ≡ true = grind arith in
     rw (n, range, take-append_seam (d ∷ ds) (y ∷ ys), drop-append_seam (d ∷ ds) (y ∷ ys)) refl
 
@@ -89,7 +89,7 @@ record Begins (text : List ℕ) : Type 0 where
   first : ℕ
   more : List ℕ
   whole : text ≡ first ∷ more
-  other : is_digit first ≡ false
+  other : is_ascii_digit first ≡ false
   point : eqb first 46 ≡ false
 
 offset_begins : (o : Option ℤ) → Begins (offset_text o)
@@ -97,7 +97,7 @@ offset_begins None = record { first = 90; more = []; whole = refl; other = refl;
 offset_begins (Some (pos n)) = record { first = 43; more = hours_minutes n; whole = refl; other = refl; point = refl }
 offset_begins (Some (negsuc n)) = record { first = 45; more = hours_minutes (suc n); whole = refl; other = refl; point = refl }
 
-fraction_before : (ds rest : List ℕ) → length ds ≤ 6 → list_all is_digit ds ≡ true → Begins rest → fraction_at (fraction_text ds ++ rest) ≡ Some (ds, rest)
+fraction_before : (ds rest : List ℕ) → length ds ≤ 6 → list_all is_ascii_digit ds ≡ true → Begins rest → fraction_at (fraction_text ds ++ rest) ≡ Some (ds, rest)
 fraction_before ds rest few all b = rw b.whole (fraction_read ds b.first b.more few all b.other b.point)
 
 -- the bounds of a lawful stamp
@@ -110,7 +110,7 @@ record Bounded (s : Stamp) : Type 0 where
   minute : s.minute ≤ 59
   second : s.second ≤ 59
   few : length s.fraction ≤ 6
-  digits : list_all is_digit s.fraction ≡ true
+  digits : list_all is_ascii_digit s.fraction ≡ true
   offset : is_offset s.offset_minutes ≡ true
 
 bounded : (s : Stamp) → is_time s ≡ true → Bounded s
@@ -119,7 +119,7 @@ bounded s h =
     let day_part = nat_le s.day 99 && is_date s.year s.month s.day in
     let date_part = nat_le s.year 9999 && (nat_le s.month 99 && day_part) in
     let clock_part = nat_le s.hour 23 && (nat_le s.minute 59 && nat_le s.second 59) in
-    let fraction_part = nat_le (length s.fraction) 6 && list_all is_digit s.fraction in
+    let fraction_part = nat_le (length s.fraction) 6 && list_all is_ascii_digit s.fraction in
     let a = and_both (date_part && clock_part) (fraction_part && is_offset s.offset_minutes) h in
     let b = and_both date_part clock_part a.0 in
     let y = and_both (nat_le s.year 9999) (nat_le s.month 99 && day_part) b.0 in
@@ -128,7 +128,7 @@ bounded s h =
     let k = and_both (nat_le s.hour 23) (nat_le s.minute 59 && nat_le s.second 59) b.1 in
     let l = and_both (nat_le s.minute 59) (nat_le s.second 59) k.1 in
     let e = and_both fraction_part (is_offset s.offset_minutes) a.1 in
-    let f = and_both (nat_le (length s.fraction) 6) (list_all is_digit s.fraction) e.0 in
+    let f = and_both (nat_le (length s.fraction) 6) (list_all is_ascii_digit s.fraction) e.0 in
     record {
       year = le_so s.year 9999 y.0;
       month = le_so s.month 99 m.0;
@@ -164,15 +164,15 @@ two_none c n rest h e =
     let b : eqb (48 + n % 10) c ≡ false = grind arith in
     none_cons c (48 + n / 10) ((48 + n % 10) ∷ rest) a (none_cons c (48 + n % 10) rest b e)
 
-digits_none : (ds rest : List ℕ) → list_all is_digit ds ≡ true → has_none 32 rest ≡ true → has_none 32 (ds ++ rest) ≡ true
+digits_none : (ds rest : List ℕ) → list_all is_ascii_digit ds ≡ true → has_none 32 rest ≡ true → has_none 32 (ds ++ rest) ≡ true
 digits_none [] rest all e = e
 digits_none (d ∷ ds) rest all e =
-    let both = and_both (is_digit d) (list_all is_digit ds) all in
+    let both = and_both (is_ascii_digit d) (list_all is_ascii_digit ds) all in
     let one = both.0 in
     let other : eqb d 32 ≡ false = grind arith in
     none_cons 32 d (ds ++ rest) other (digits_none ds rest both.1 e)
 
-fraction_none : (ds rest : List ℕ) → list_all is_digit ds ≡ true → has_none 32 rest ≡ true → has_none 32 (fraction_text ds ++ rest) ≡ true
+fraction_none : (ds rest : List ℕ) → list_all is_ascii_digit ds ≡ true → has_none 32 rest ≡ true → has_none 32 (fraction_text ds ++ rest) ≡ true
 fraction_none [] rest all e = e
 fraction_none (d ∷ ds) rest all e = none_cons 32 46 ((d ∷ ds) ++ rest) refl (digits_none (d ∷ ds) rest all e)
 
@@ -184,7 +184,7 @@ offset_none None = refl
 offset_none (Some (pos n)) = none_cons 32 43 (hours_minutes n) refl (hours_none n)
 offset_none (Some (negsuc n)) = none_cons 32 45 (hours_minutes (suc n)) refl (hours_none (suc n))
 
-time_none : (s : Stamp) → list_all is_digit s.fraction ≡ true → has_none 32 (time_text s) ≡ true
+time_none : (s : Stamp) → list_all is_ascii_digit s.fraction ≡ true → has_none 32 (time_text s) ≡ true
 unfolding time_text date_text clock_text
 time_none s all =
     let rest = fraction_text s.fraction ++ offset_text s.offset_minutes in

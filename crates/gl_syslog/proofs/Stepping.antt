@@ -3,10 +3,11 @@ use Rattle.std.proofs.Common.{◌≡◌, ◌≢◌, ℕ, inl, ◌+◌, ◌-◌, 
 use Rattle.std.specs.List.{list_all, slice_range}
 use Rattle.std.proofs.lemmas.List.{take_all, drop-append-le, length-drop, length-append}
 use Rattle.std.proofs.lemmas.List.Folds.{list_all-append}
-use Rattle.gl_syslog.specs.Digits.{is_digit, decimal}
+use Rattle.std.specs.Char.{is_ascii_digit}
+use Rattle.gl_base.specs.Digits.{decimal}
 use Rattle.gl_syslog.specs.LineFraming.{most, has_count, count, behind_count, has_no_end, is_counted, is_open, is_one, part, IsUnit, IsCounted, frame_of}
 use Rattle.std.specs.Prelude.{Some}
-use Rattle.gl_syslog.specs.declared.fed.Fed.TheVariants.{Nothing, Whole}
+use Rattle.gl_base.specs.declared.fed.Fed.TheVariants.{Nothing, Whole}
 use Rattle.gl_syslog.specs.Fronts.{IsBegun, IsCountedFront, Becomes, goes_on, ends_count}
 use Rattle.gl_syslog.proofs.Bools.{and_both, and_holds}
 use Rattle.gl_syslog.proofs.Counts.{never_counts, count_stays, digits_alone, count_ends, decimal_push, digits_no_end}
@@ -51,28 +52,28 @@ first_push (x ∷ xs) b first goes = first
 -- one digit more of a MSG-LEN
 pub begun_push : (counts : Bool) (bytes : List ℕ) (n b : ℕ) → IsBegun counts bytes n → goes_on (length bytes) b ≡ true → IsBegun counts (bytes ++ b ∷ []) (n * 10 + (b - 48))
 begun_push counts bytes n b f goes =
-    let digit : is_digit b ≡ true = grind arith in
+    let digit : is_ascii_digit b ≡ true = grind arith in
     let len : length (bytes ++ b ∷ []) ≡ length bytes + 1 = length-append bytes (b ∷ []) in
     let room : length bytes < 7 = grind arith in
     record {
       is = f.is;
-      digits = list_all_push is_digit bytes b f.digits digit;
+      digits = list_all_push is_ascii_digit bytes b f.digits digit;
       few = omega (arith, len, room);
       first = first_push bytes b f.first goes;
       value = ap (λ (m : ℕ). m * 10 + (b - 48)) f.value ∙ sym (decimal_push 0 bytes b);
     }
 
-digit_above : (d : ℕ) → is_digit d ≡ true → (d == 48) ≡ false → 0 < 0 * 10 + (d - 48)
+digit_above : (d : ℕ) → is_ascii_digit d ≡ true → (d == 48) ≡ false → 0 < 0 * 10 + (d - 48)
 digit_above d is other = grind arith
 
 stays_above : (n : ℕ) (ds : List ℕ) → 0 < n → 0 < decimal n ds
 stays_above n [] h = h
 stays_above n (d ∷ ds) h = stays_above (n * 10 + (d - 48)) ds (omega (arith, h))
 
-number_above : (ds : List ℕ) → list_all is_digit ds ≡ true → (get_or ds 0 0 == 48) ≡ false → 0 < length ds → 0 < decimal 0 ds
+number_above : (ds : List ℕ) → list_all is_ascii_digit ds ≡ true → (get_or ds 0 0 == 48) ≡ false → 0 < length ds → 0 < decimal 0 ds
 number_above [] all first some = absurd (omega arith)
 number_above (d ∷ ds) all first some =
-    let digit = and_both (is_digit d) (list_all is_digit ds) all in
+    let digit = and_both (is_ascii_digit d) (list_all is_ascii_digit ds) all in
     stays_above (0 * 10 + (d - 48)) ds (digit_above d digit.0 first)
 
 -- a MSG-LEN ends

@@ -5,7 +5,7 @@ use Rattle.std.specs.List.{prefix_len, concat, AllByRecursion}
 use Rattle.std.proofs.lemmas.List.{append-nil, append_assoc, length-append}
 use Rattle.std.proofs.lemmas.List.Folds.{list_all-append, prefix_len-append}
 use Rattle.std.proofs.lemmas.List.Sums.{prefix_len-le-length}
-use Rattle.gl_syslog.specs.Digits.{is_digit}
+use Rattle.std.specs.Char.{is_ascii_digit}
 use Rattle.gl_syslog.specs.LineFraming.{most, has_count, count, behind_count, is_counted, has_no_end, IsUnit, is_open, is_one, part, frames_in, Ends, Framed}
 use Rattle.gl_syslog.proofs.Bools.{and_both, and_holds, and_right}
 use Rattle.gl_syslog.proofs.Counts.{count_stays, count_cut, count_short}
@@ -31,13 +31,13 @@ longer counts text more is =
 line_stays : (counts : Bool) (line more : List ℕ) → is_counted counts (line ++ 10 ∷ []) ≡ false → is_counted counts ((line ++ 10 ∷ []) ++ more) ≡ false
 line_stays counts line more is =
     let len : length (line ++ 10 ∷ []) ≡ length line + 1 = length-append line (10 ∷ []) in
-    let n : prefix_len is_digit (line ++ 10 ∷ []) ≤ length line = digits_within line in
+    let n : prefix_len is_ascii_digit (line ++ 10 ∷ []) ≤ length line = digits_within line in
     ap (λ (b : Bool). counts && b) (count_cut (line ++ 10 ∷ []) more (omega (arith, len, n))) ∙ is
   where
-    digits_within : (line : List ℕ) → prefix_len is_digit (line ++ 10 ∷ []) ≤ length line
+    digits_within : (line : List ℕ) → prefix_len is_ascii_digit (line ++ 10 ∷ []) ≤ length line
     digits_within line =
-        let whole = prefix_len-append is_digit line (10 ∷ []) in
-        let most_line = prefix_len-le-length is_digit line in
+        let whole = prefix_len-append is_ascii_digit line (10 ∷ []) in
+        let most_line = prefix_len-le-length is_ascii_digit line in
         grind arith
 
 ends_not : (line more : List ℕ) → has_no_end ((line ++ 10 ∷ []) ++ more) ≡ true → ⊥
@@ -142,14 +142,14 @@ record Passes (counts : Bool) (front : List ℕ) : Type 0 where
 front_counts : (counts : Bool) (front z : List ℕ) → most < length front → is_counted counts (front ++ z) ≡ true → is_counted counts front ≡ true
 front_counts counts front z long is =
     let both = and_both counts (has_count (front ++ z)) is in
-    let short : prefix_len is_digit (front ++ z) ≤ 7 = count_short (front ++ z) both.1 in
-    let within : prefix_len is_digit front < length front = digits_within front z long short in
+    let short : prefix_len is_ascii_digit (front ++ z) ≤ 7 = count_short (front ++ z) both.1 in
+    let within : prefix_len is_ascii_digit front < length front = digits_within front z long short in
     and_holds counts (has_count front) both.0 (sym (count_cut front z within) ∙ both.1)
   where
-    digits_within : (front z : List ℕ) → most < length front → prefix_len is_digit (front ++ z) ≤ 7 → prefix_len is_digit front < length front
+    digits_within : (front z : List ℕ) → most < length front → prefix_len is_ascii_digit (front ++ z) ≤ 7 → prefix_len is_ascii_digit front < length front
     digits_within front z long short =
-        let whole = prefix_len-append is_digit front z in
-        let most_front = prefix_len-le-length is_digit front in
+        let whole = prefix_len-append is_ascii_digit front z in
+        let most_front = prefix_len-le-length is_ascii_digit front in
         grind arith
 
 counted_passes : (counts : Bool) (front : List ℕ) → Passes counts front → is_counted counts front ≡ true → length (behind_count front) ≡ most + 1

@@ -1,13 +1,14 @@
 -- Structured data and the message behind it (RFC 5424 sections 6.3 and 6.4), from left to right.
 use Rattle.std.specs.Prelude.{ℕ, zero, suc, ◌+◌, ◌==◌, Bool, true, false, not, ◌&&◌, ◌||◌, List, [], ◌∷◌, ◌++◌, length, take, drop, slice_index, Option, Some, None, option_map, if◌then◌else◌}
 use Rattle.std.specs.List.{prefix_len}
+use Rattle.std.specs.Char.{is_ascii_graphic}
 use Rattle.std.specs.Int.{is_in_range}
 use Rattle.gl_syslog.specs.declared.parts.Element.{Element}
-use Rattle.gl_syslog.specs.Sections.{◌>>=◌, is_printable}
+use Rattle.gl_syslog.specs.Sections.{◌>>=◌}
 
 -- printable, and none of `=`, `]` and `"`
 abbrev pub is_sd_byte : ℕ → Bool
-is_sd_byte b = is_printable b && not (b == 61 || b == 93 || b == 34)
+is_sd_byte b = is_ascii_graphic b && not (b == 61 || b == 93 || b == 34)
 
 -- the longest such name at the front, 1 to 32 bytes
 unfoldable pub sd_name_at : List ℕ → Option (List ℕ × List ℕ)

@@ -2,19 +2,20 @@
 use Rattle.std.specs.Prelude.{◌≡◌, ◌⊎◌, ◌+◌, ◌==◌, ◌<◌, ◌≤◌, ℕ, ⊤, Bool, true, false, not, ◌&&◌, nat_lt, List, [], ◌++◌, length, drop, slice_index, slice_range, Option, Some, None}
 use Rattle.std.specs.List.{list_all}
 use Rattle.std.specs.Vec.{vec_capacity}
-use Rattle.gl_syslog.specs.declared.fed.Fed.{Fed}
-use Rattle.gl_syslog.specs.declared.fed.Fed.TheVariants.{Nothing, Whole, TooLong, Closed}
+use Rattle.gl_base.specs.declared.fed.Fed.{Fed}
+use Rattle.gl_base.specs.declared.fed.Fed.TheVariants.{Nothing, Whole, TooLong, Closed}
 use Rattle.gl_syslog.specs.declared.front.Front.{Front}
 use Rattle.gl_syslog.specs.declared.front.State.{State}
 use Rattle.gl_syslog.specs.declared.front.State.TheVariants as states
-use Rattle.gl_syslog.specs.Digits.{is_digit, decimal}
+use Rattle.std.specs.Char.{is_ascii_digit}
+use Rattle.gl_base.specs.Digits.{decimal}
 use Rattle.gl_syslog.specs.Reader.{ReaderView, told}
 use Rattle.gl_syslog.specs.LineFraming.{Framed, most, is_counted, count, behind_count, has_no_end, is_open, is_one, part, IsUnit, frame_of}
 
 -- only digits of a MSG-LEN came so far
 pub record IsBegun (counts : Bool) (bytes : List ℕ) (n : ℕ) : Type 0 where
   pub is : counts ≡ true
-  pub digits : list_all is_digit bytes ≡ true
+  pub digits : list_all is_ascii_digit bytes ≡ true
   pub few : length bytes ≤ 7
   pub first : (slice_index bytes 0 == 48) ≡ false
   pub value : n ≡ decimal 0 bytes
@@ -25,7 +26,7 @@ ends_count len b = nat_lt 0 len && b == 32
 
 -- a byte that goes on with a MSG-LEN behind so many digits
 abbrev pub goes_on : ℕ → ℕ → Bool
-goes_on len b = nat_lt len 7 && is_digit b && not (len == 0 && b == 48)
+goes_on len b = nat_lt len 7 && is_ascii_digit b && not (len == 0 && b == 48)
 
 -- however it goes on, it is a line
 pub record IsLineFront (counts : Bool) (bytes : List ℕ) : Type 0 where

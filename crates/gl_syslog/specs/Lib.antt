@@ -1,4 +1,3 @@
-pub mod Digits
 pub mod LineFraming
 pub mod Reader
 pub mod Fronts
@@ -8,3 +7,8 @@ pub mod Data
 pub mod Reading
 pub mod Rfc5424
 pub mod Printing
+pub mod Rfc3164
+pub mod Moments
+pub mod Decoding
+pub mod Putting
+pub mod LineFrames

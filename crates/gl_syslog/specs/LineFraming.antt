@@ -2,7 +2,8 @@
 -- counts are read, frames behind their MSG-LEN. An empty frame gives nothing. The limits are this project's.
 use Rattle.std.specs.Prelude.{◌≡◌, ◌⊎◌, ℕ, ◌+◌, ◌-◌, ◌==◌, ◌≤◌, Bool, true, false, not, ◌&&◌, List, [], ◌∷◌, ◌++◌, length, take, drop, slice_index, nat_lt, nat_le, Option, Some, None, if◌then◌else◌}
 use Rattle.std.specs.List.{prefix_len, list_all, AllByRecursion, concat}
-use Rattle.gl_syslog.specs.Digits.{is_digit, decimal}
+use Rattle.std.specs.Char.{is_ascii_digit}
+use Rattle.gl_base.specs.Digits.{decimal}
 
 -- the bytes of the longest frame: those of a line before its LF, a CR included, or those behind a MSG-LEN
 abbrev pub most : ℕ
@@ -10,15 +11,15 @@ most = 1048576
 
 -- A MSG-LEN stands at the front: a digit from 1 to 9, at most six more digits, and a space.
 unfoldable pub has_count : List ℕ → Bool
-has_count text = nat_lt 0 (prefix_len is_digit text) && nat_le (prefix_len is_digit text) 7
-    && not (slice_index text 0 == 48) && slice_index text (prefix_len is_digit text) == 32
+has_count text = nat_lt 0 (prefix_len is_ascii_digit text) && nat_le (prefix_len is_ascii_digit text) 7
+    && not (slice_index text 0 == 48) && slice_index text (prefix_len is_ascii_digit text) == 32
 
 -- what it says, and what stands behind its space
 unfoldable pub count : List ℕ → ℕ
-count text = decimal 0 (take (prefix_len is_digit text) text)
+count text = decimal 0 (take (prefix_len is_ascii_digit text) text)
 
 unfoldable pub behind_count : List ℕ → List ℕ
-behind_count text = drop (prefix_len is_digit text + 1) text
+behind_count text = drop (prefix_len is_ascii_digit text + 1) text
 
 -- where counts are read, a text is counted whose front is a MSG-LEN; each other one is a line
 abbrev pub is_counted : Bool → List ℕ → Bool

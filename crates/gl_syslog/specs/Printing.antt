@@ -5,8 +5,8 @@ use Rattle.std.specs.Str.{bytes_eq}
 use Rattle.gl_syslog.specs.declared.parts.Element.{Element}
 use Rattle.gl_syslog.specs.declared.parts.Stamp.{Stamp}
 use Rattle.gl_syslog.specs.declared.parts.Parts.{Parts}
-use Rattle.gl_syslog.specs.Digits.{is_digit}
-use Rattle.gl_syslog.specs.Sections.{is_printable, is_date}
+use Rattle.std.specs.Char.{is_ascii_digit, is_ascii_graphic}
+use Rattle.gl_syslog.specs.Sections.{is_date}
 use Rattle.gl_syslog.specs.Data.{is_special, has_bom}
 use Rattle.gl_syslog.specs.Reading.{are_distinct, ids_of}
 use Rattle.gl_syslog.specs.Rfc5424.{is_sd_name, up_to}
@@ -26,7 +26,7 @@ name_text (Some name) = name
 -- a name that is not what stands for none
 abbrev pub is_name : ℕ → Option (List ℕ) → Bool
 is_name most None = true
-is_name most (Some name) = not (bytes_eq name (codes "-")) && (nat_lt 0 (length name) && nat_le (length name) most && list_all is_printable name)
+is_name most (Some name) = not (bytes_eq name (codes "-")) && (nat_lt 0 (length name) && nat_le (length name) most && list_all is_ascii_graphic name)
 
 abbrev pub hours_minutes : ℕ → List ℕ
 hours_minutes n = two_digits (n / 60) ++ 58 ∷ two_digits (n % 60)
@@ -61,7 +61,7 @@ unfoldable pub is_moment : Stamp → Bool
 is_moment s = (nat_le s.year 9999 && (nat_le s.month 99 && (nat_le s.day 99 && is_date s.year s.month s.day))) && (nat_le s.hour 23 && (nat_le s.minute 59 && nat_le s.second 59))
 
 unfoldable pub is_time : Stamp → Bool
-is_time s = is_moment s && ((nat_le (length s.fraction) 6 && list_all is_digit s.fraction) && is_offset s.offset_minutes)
+is_time s = is_moment s && ((nat_le (length s.fraction) 6 && list_all is_ascii_digit s.fraction) && is_offset s.offset_minutes)
 
 abbrev pub stamp_text : Option Stamp → List ℕ
 stamp_text None = codes "-"

@@ -1,7 +1,7 @@
 -- What a reader of frames is seen as, and what its calls answer.
 use Rattle.std.specs.Prelude.{◌≡◌, ◌<◌, ℕ, Bool, List, [], ◌∷◌, length, Option, Some, None, IsSome}
-use Rattle.gl_syslog.specs.declared.fed.Fed.{Fed}
-use Rattle.gl_syslog.specs.declared.fed.Fed.TheVariants.{Nothing, Whole, TooLong, Closed}
+use Rattle.gl_base.specs.declared.fed.Fed.{Fed}
+use Rattle.gl_base.specs.declared.fed.Fed.TheVariants.{Nothing, Whole, TooLong, Closed}
 use Rattle.gl_syslog.specs.LineFraming.{Framed}
 
 -- whether counts are read; what came of the frame that hasn't ended, none behind one that was too long; and the frame that is lent

@@ -7,7 +7,8 @@ use Rattle.jiff_core.specs.Calendar.{days_in_month}
 use Rattle.gl_syslog.specs.declared.parts.Stamp.{Stamp}
 use Rattle.gl_syslog.specs.declared.unread.Unread.{Unread}
 use Rattle.gl_syslog.specs.declared.unread.Unread.TheVariants as unread
-use Rattle.gl_syslog.specs.Digits.{is_digit, decimal}
+use Rattle.std.specs.Char.{is_ascii_digit, is_ascii_graphic}
+use Rattle.gl_base.specs.Digits.{decimal}
 
 -- what is read next stands behind what was read
 infixl 10 ◌>>=◌
@@ -32,7 +33,7 @@ split c text =
 -- PRIVAL: 1 to 3 digits, at most 191, and a 0 in front only where it is 0 alone
 unfoldable pub pri_value : List ℕ → Option ℕ
 pri_value digits =
-    if nat_lt 0 (length digits) && nat_le (length digits) 3 && list_all is_digit digits
+    if nat_lt 0 (length digits) && nat_le (length digits) 3 && list_all is_ascii_digit digits
     && (not (slice_index digits 0 == 48) || length digits == 1) && nat_le (decimal 0 digits) 191
     then Some (decimal 0 digits) else None
 
@@ -47,14 +48,11 @@ pri_at text = do
   pri ← pri_in front.0
   Some (pri, front.1)
 
-abbrev pub is_printable : ℕ → Bool
-is_printable b = is_in_range 33 126 b
-
 -- `-`, or 1 to `most` printable characters
 unfoldable pub name_of : ℕ → List ℕ → Option (Option (List ℕ))
 name_of most text =
     if bytes_eq text (codes "-") then Some None
-    else (if nat_lt 0 (length text) && nat_le (length text) most && list_all is_printable text then Some (Some text) else None)
+    else (if nat_lt 0 (length text) && nat_le (length text) most && list_all is_ascii_graphic text then Some (Some text) else None)
 
 -- a name up to the next space
 unfoldable pub name_at : ℕ → List ℕ → Option (Option (List ℕ) × List ℕ)
@@ -66,7 +64,7 @@ name_at most text = do
 -- two digits at a place
 unfoldable pub two_at : ℕ → List ℕ → Option ℕ
 two_at at text =
-    if is_digit (slice_index text at) && is_digit (slice_index text (at + 1))
+    if is_ascii_digit (slice_index text at) && is_ascii_digit (slice_index text (at + 1))
     then Some ((slice_index text at - 48) * 10 + (slice_index text (at + 1) - 48)) else None
 
 -- hh:mm at a place, to 23:59
@@ -100,8 +98,8 @@ date_at text = do
 unfoldable pub fraction_at : List ℕ → Option (List ℕ × List ℕ)
 fraction_at text =
     if slice_index text 0 == 46
-    then (if is_in_range 1 6 (prefix_len is_digit (drop 1 text))
-    then Some (take (prefix_len is_digit (drop 1 text)) (drop 1 text), drop (prefix_len is_digit (drop 1 text)) (drop 1 text)) else None)
+    then (if is_in_range 1 6 (prefix_len is_ascii_digit (drop 1 text))
+    then Some (take (prefix_len is_ascii_digit (drop 1 text)) (drop 1 text), drop (prefix_len is_ascii_digit (drop 1 text)) (drop 1 text)) else None)
     else Some ([], text)
 
 -- minutes east of UTC, by the sign before them

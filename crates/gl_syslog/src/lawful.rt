@@ -1,7 +1,7 @@
 // Whether some text has these parts.
 ghost use Rattle.std.specs.Prelude.{◌≡◌, IfOk};
 ghost use Rattle.std.specs.List.{list_all};
-ghost use Rattle.gl_syslog.specs.Digits.{is_digit};
+ghost use Rattle.std.specs.Char.{is_ascii_digit};
 ghost use Rattle.gl_syslog.specs.Data.{is_sd_byte};
 ghost use Rattle.gl_syslog.specs.Rfc5424.{is_sd_name};
 ghost use Rattle.gl_syslog.specs.Printing.{is_name, is_offset, is_moment, is_time, is_stamp, is_param, is_element, is_message, is_header, are_lawful};

@@ -1,4 +1,4 @@
-//! Syslog: the frames of a connection, and messages of RFC 5424.
+//! Syslog: the frames of a connection, messages of RFC 5424 and RFC 3164, and the fields of a payload.
 //!
 //! `LineFrames` cuts what a connection sends into frames, lines and, where asked, counted ones (RFC 6587):
 //! however the bytes are cut into pieces, the frames so far are those of the bytes so far (`specs/LineFraming`).
@@ -9,13 +9,24 @@
 //!
 //! `print_5424` prints a text exactly where some text has the parts, and that text reads back to them. Which parts these
 //! are, as one test, and which of their texts is printed, is told in `specs/Printing`.
+//!
+//! `read_3164` reads exactly the texts of the BSD form (`specs/Rfc3164`). `decode_syslog` gives the fields of any payload, or
+//! the cause for which a map refuses one of them, and nothing else but for want of memory: `specs/Decoding` says which, and
+//! `specs/Moments` which time a stamp means.
 #![tactic(auto)]
 
+mod bsd;
+mod content;
 mod data;
-mod fed;
+mod decode;
+#[cfg(test)]
+mod decode_tests;
+mod fields;
 mod frames;
+mod frames_law;
 mod front;
 mod lawful;
+mod moment;
 mod parts;
 mod print;
 mod print_data;
@@ -30,8 +41,11 @@ mod stamp;
 mod tests;
 mod unread;
 
-pub use fed::Fed;
+pub use bsd::{BsdParts, BsdStamp, read_3164};
+pub use decode::decode_syslog;
 pub use frames::{LineFrames, law_one_framing};
+pub use frames_law::law_frames_of_bytes;
+pub use gl_base::Fed;
 pub use parts::{Element, Parts, Stamp};
 pub use print::print_5424;
 pub use read::read_5424;

@@ -1,8 +1,9 @@
 // The sections of a message's header.
 ghost use Rattle.std.specs.Prelude.{◌≡◌, ◌+◌, ◌==◌, ◌≤◌, ◌<◌, ◌-◌, ◌^◌, true, length, slice_index, take, drop, pos, IfOk, option_map, Some};
 ghost use Rattle.std.specs.List.{list_all};
-ghost use Rattle.gl_syslog.specs.Digits.{is_digit, decimal};
-ghost use Rattle.gl_syslog.specs.Sections.{Gives, split, pri_value, pri_in, pri_at, is_printable, name_of, name_at, two_at, hour_minute_at, clock_at, is_date, date_at};
+ghost use Rattle.std.specs.Char.{is_ascii_digit, is_ascii_graphic};
+ghost use Rattle.gl_base.specs.Digits.{decimal};
+ghost use Rattle.gl_syslog.specs.Sections.{Gives, split, pri_value, pri_in, pri_at, name_of, name_at, two_at, hour_minute_at, clock_at, is_date, date_at};
 
 use crate::unread::Unread;
 use gl_base::Text;
@@ -38,22 +39,16 @@ fn split_close(text: &str) -> Result<(&str, &str), Unread>
     }
 }
 
-pub fn is_digit(b: u8) -> bool
-    ensures { result ≡ is_digit b }
-{
-    b.is_ascii_digit()
-}
-
 pub fn are_digits(bytes: &[u8]) -> bool
-    ensures { result ≡ list_all is_digit bytes.now }
+    ensures { result ≡ list_all is_ascii_digit bytes.now }
 {
-    bytes.iter().all(|b| is_digit(*b))
+    bytes.iter().all(|b| b.is_ascii_digit())
 }
 
 /// The number that at most three digits write.
 fn number(digits: &[u8]) -> usize
     requires few { length digits.now ≤ 3 }
-    requires digits { list_all is_digit digits.now ≡ true }
+    requires digits { list_all is_ascii_digit digits.now ≡ true }
     ensures { result ≡ decimal 0 digits.now }
 {
     let mut n = 0;
@@ -103,9 +98,9 @@ pub fn pri_at(text: &str) -> Result<(u8, &str), Unread>
 }
 
 pub fn are_printable(bytes: &[u8]) -> bool
-    ensures { result ≡ list_all is_printable bytes.now }
+    ensures { result ≡ list_all is_ascii_graphic bytes.now }
 {
-    bytes.iter().all(|b| *b >= 33 && *b <= 126)
+    bytes.iter().all(|b| b.is_ascii_graphic())
 }
 
 #[tactic(auto, unfolding(crate::specs::Sections::name_of))]
@@ -155,7 +150,7 @@ pub fn two_at(text: &[u8], at: usize) -> Result<u8, Unread>
 {
     let tens = byte_at(text, at);
     let ones = byte_at(text, at + 1);
-    if !is_digit(tens) || !is_digit(ones) {
+    if !tens.is_ascii_digit() || !ones.is_ascii_digit() {
         return Err(Unread::Other);
     }
     Ok((tens - b'0') * 10 + (ones - b'0'))

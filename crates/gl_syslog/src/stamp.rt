@@ -1,11 +1,11 @@
 // The time stamp of a message.
 ghost use Rattle.std.specs.Prelude.{◌≡◌, ◌==◌, ◌≤◌, ◌<◌, ◌-◌, ◌^◌, length, slice_index, take, drop, IfOk};
 ghost use Rattle.std.specs.List.{prefix_len};
-ghost use Rattle.gl_syslog.specs.Digits.{is_digit};
+ghost use Rattle.std.specs.Char.{is_ascii_digit};
 ghost use Rattle.gl_syslog.specs.Sections.{Gives, minutes, fraction_at, shift_of, offset_of, time_of, stamp_of, stamp_at};
 
 use crate::Stamp;
-use crate::sections::{byte_at, clock_at, date_at, hour_minute_at, is_digit, split_space};
+use crate::sections::{byte_at, clock_at, date_at, hour_minute_at, split_space};
 use crate::unread::Unread;
 use gl_base::Text;
 use std::alloc::Global;
@@ -16,12 +16,12 @@ const CLOCK_END: usize = 19;
 pub const MAX_FRACTION: usize = 6;
 
 /// How many digits stand at the front.
-fn digits_len(bytes: &[u8]) -> usize
-    ensures len { result ≡ prefix_len is_digit bytes.now }
+pub fn digits_len(bytes: &[u8]) -> usize
+    ensures len { result ≡ prefix_len is_ascii_digit bytes.now }
     ensures within { result ≤ length bytes.now }
 {
     for (i, byte) in bytes.iter().enumerate() {
-        if !is_digit(*byte) {
+        if !byte.is_ascii_digit() {
             return i;
         }
     }

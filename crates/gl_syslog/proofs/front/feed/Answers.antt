@@ -1,5 +1,5 @@
 use Rattle.std.proofs.Common.{[], ◌+◌}
-use Rattle.gl_syslog.specs.declared.fed.Fed.TheVariants.{Nothing, Whole, TooLong}
+use Rattle.gl_base.specs.declared.fed.Fed.TheVariants.{Nothing, Whole, TooLong}
 use Rattle.gl_syslog.specs.Fronts.{rest_of, lent_of}
 use Rattle.gl_syslog.proofs.Framings.{moves_nothing, step_moves, all_too_long}
 use Rattle.gl_syslog.proofs.front.feed.Goals as goal

@@ -1,5 +1,5 @@
 use Rattle.std.proofs.Common.{[], take}
-use Rattle.gl_syslog.specs.declared.fed.Fed.TheVariants.{Nothing}
+use Rattle.gl_base.specs.declared.fed.Fed.TheVariants.{Nothing}
 use Rattle.gl_syslog.specs.Fronts.{IsFront, IsTaking, Moves, rest_of}
 use Rattle.gl_syslog.proofs.front.feed.Given as goal
 

@@ -1,5 +1,5 @@
 use Rattle.std.proofs.Common.{◌≡◌, take}
-use Rattle.gl_syslog.specs.Digits.{decimal}
+use Rattle.gl_base.specs.Digits.{decimal}
 use Rattle.gl_syslog.proofs.sections.number.Given as goal
 
 abbrev pub invariant-loop-d : goal.invariant-loop-d

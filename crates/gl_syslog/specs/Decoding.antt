@@ -1,0 +1,138 @@
+-- The fields of a payload of syslog. Their names, and which of them are put, are this project's.
+use Rattle.std.specs.Prelude.{ℕ, ◌/◌, ◌%◌, ℤ, pos, List, [], ◌∷◌, ◌++◌, map, Option, Some, None, Result, Ok, Err, if◌then◌else◌, codes, slice_index_or}
+use Rattle.std.specs.List.{fold, flat_map}
+use Rattle.std.specs.Option.{unwrap_or}
+use Rattle.std.specs.Str.Lossy.{utf8_lossy}
+use Rattle.gl_fields.specs.declared.field.Field.{Field}
+use Rattle.gl_fields.specs.declared.field.Value.TheVariants.{Text, Whole}
+use Rattle.gl_fields.specs.declared.field.FieldRefusal.{FieldRefusal}
+use Rattle.gl_fields.specs.declared.field.FieldRefusal.TheVariants.{TooManyFields as TooManyNames}
+use Rattle.gl_fields.specs.declared.entry.Cause.{Cause}
+use Rattle.gl_fields.specs.declared.entry.Cause.TheVariants.{TooManyFields, TooLarge}
+use Rattle.gl_fields.specs.Fields.{with_field, refusal_of, is_name_byte}
+use Rattle.gl_syslog.specs.declared.parts.Element.{Element}
+use Rattle.gl_syslog.specs.declared.parts.Parts.{Parts}
+use Rattle.gl_syslog.specs.declared.bsd.BsdParts.{BsdParts}
+use Rattle.gl_syslog.specs.declared.content.Content.{Content}
+use Rattle.gl_syslog.specs.Sections.{pri_at}
+use Rattle.gl_syslog.specs.Reading.{parts_of}
+use Rattle.gl_syslog.specs.Rfc3164.{bsd_parts_of, tag_of, process_of}
+use Rattle.gl_syslog.specs.Moments.{time_of, bsd_time, kept_or}
+
+-- facilities 0 to 23 (RFC 5424 section 6.2.1, table 1)
+abbrev pub facility_names : List (List ℕ)
+facility_names =
+    codes "kern" ∷ codes "user" ∷ codes "mail" ∷ codes "daemon" ∷ codes "auth" ∷ codes "syslog" ∷ codes "lpr" ∷ codes "news"
+    ∷ codes "uucp" ∷ codes "cron" ∷ codes "authpriv" ∷ codes "ftp" ∷ codes "ntp" ∷ codes "audit" ∷ codes "alert" ∷ codes "clock"
+    ∷ codes "local0" ∷ codes "local1" ∷ codes "local2" ∷ codes "local3" ∷ codes "local4" ∷ codes "local5" ∷ codes "local6" ∷ codes "local7" ∷ []
+
+abbrev pub facility_name : ℕ → List ℕ
+facility_name facility = slice_index_or facility_names facility []
+
+-- what a message says, by its form
+
+-- a message of RFC 5424
+abbrev pub content_5424 : ℕ → List ℕ → Parts → Content
+content_5424 moment peer p = record {
+  pri = p.pri;
+  timestamp = kept_or moment (time_of p.stamp);
+  message = unwrap_or p.msg [];
+  source = unwrap_or p.host peer;
+  application_name = p.app;
+  process_id = p.proc_id;
+  message_id = p.msg_id;
+  elements = p.elements;
+}
+
+-- a message of RFC 3164
+abbrev pub content_3164 : ℕ → BsdParts → Content
+content_3164 moment p = record {
+  pri = p.pri;
+  timestamp = kept_or moment (bsd_time moment p.stamp);
+  message = p.msg;
+  source = p.host;
+  application_name = tag_of p.msg;
+  process_id = process_of p.msg;
+  message_id = None;
+  elements = [];
+}
+
+-- a text of neither form
+abbrev pub content_plain : ℕ → List ℕ → ℕ × List ℕ → Content
+content_plain moment peer (pri, message) = record {
+  pri = pri;
+  timestamp = pos moment;
+  message = message;
+  source = peer;
+  application_name = None;
+  process_id = None;
+  message_id = None;
+  elements = [];
+}
+
+-- RFC 5424 is tried first, then RFC 3164, then PRI alone; a text without one has PRI 13 (RFC 3164 section 4.3.3)
+abbrev pub content_by : ℕ → List ℕ → List ℕ → Option Parts → Option BsdParts → Option (ℕ × List ℕ) → Content
+content_by moment peer text (Some parts) bsd pri = content_5424 moment peer parts
+content_by moment peer text None (Some parts) pri = content_3164 moment parts
+content_by moment peer text None None (Some pri) = content_plain moment peer pri
+content_by moment peer text None None None = content_plain moment peer (13, text)
+
+unfoldable pub content_of : ℕ → List ℕ → List ℕ → Content
+content_of moment peer text = content_by moment peer text (parts_of text) (bsd_parts_of text) (pri_at text)
+
+-- the fields, in the order in which they are put
+
+abbrev pub text_field : List ℕ → List ℕ → Field
+text_field name text = record { name = name; value = Text text }
+
+abbrev pub whole_field : List ℕ → ℤ → Field
+whole_field name number = record { name = name; value = Whole number }
+
+abbrev pub field_if : List ℕ → Option (List ℕ) → List Field
+field_if name None = []
+field_if name (Some text) = text_field name text ∷ []
+
+-- a byte, or `_` where a field name doesn't allow it
+abbrev pub allowed : ℕ → ℕ
+allowed b = if is_name_byte b then b else 95
+
+-- ID, a point and NAME
+abbrev pub parameter_name : List ℕ → List ℕ → List ℕ
+parameter_name id name = map allowed (id ++ 46 ∷ name)
+
+abbrev pub parameter_field : List ℕ → List ℕ × List ℕ → Field
+parameter_field id (name, value) = text_field (parameter_name id name) value
+
+abbrev pub element_fields : Element → List Field
+element_fields e = map (λ p. parameter_field e.id p) e.params
+
+unfoldable pub fields_of : Content → List Field
+fields_of c =
+    text_field (codes "message") c.message
+    ∷ text_field (codes "source") c.source
+    ∷ whole_field (codes "timestamp") c.timestamp
+    ∷ whole_field (codes "level") (pos (c.pri % 8))
+    ∷ text_field (codes "facility") (facility_name (c.pri / 8))
+    ∷ (field_if (codes "application_name") c.application_name
+    ++ (field_if (codes "process_id") c.process_id
+    ++ (field_if (codes "message_id") c.message_id ++ flat_map element_fields c.elements)))
+
+-- the map that they make
+
+-- a field put into a map, or the cause that a refusal gives
+abbrev pub put_or_cause : Field → List Field → Option FieldRefusal → Result (List Field) Cause
+put_or_cause field fields None = Ok (with_field field fields)
+put_or_cause field fields (Some TooManyNames) = Err TooManyFields
+put_or_cause field fields (Some refusal) = Err TooLarge
+
+abbrev pub then_put : Result (List Field) Cause → Field → Result (List Field) Cause
+then_put (Err cause) field = Err cause
+then_put (Ok fields) field = put_or_cause field fields (refusal_of field fields)
+
+-- the map with these fields put in, in order, or the first cause
+abbrev pub map_with : List Field → Result (List Field) Cause
+map_with fields = fold then_put (Ok []) fields
+
+-- what a payload is decoded to that came from this peer at this moment
+unfoldable pub decoded_syslog : ℕ → List ℕ → List ℕ → Result (List Field) Cause
+decoded_syslog moment peer bytes = map_with (fields_of (content_of moment peer (utf8_lossy bytes)))
