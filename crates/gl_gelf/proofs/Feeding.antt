@@ -5,7 +5,7 @@ use Rattle.std.specs.Prelude.{not, vec_capacity}
 use Rattle.std.proofs.lemmas.List.{append-nil, length-append, take_at, take-append-drop}
 use Rattle.std.proofs.lemmas.Bool.{and_parts, and_from}
 use Rattle.std.proofs.lemmas.Bool.Decides.{nat_tests}
-use Rattle.gl_gelf.specs.declared.frames.Fed.TheVariants as fed
+use Rattle.gl_base.specs.declared.fed.Fed.TheVariants as fed
 use Rattle.gl_gelf.specs.declared.frames.Stage.{Stage}
 use Rattle.gl_gelf.specs.declared.frames.Stage.TheVariants as stages
 use Rattle.gl_gelf.specs.declared.frames.ZeroFrames.{ZeroFrames}
@@ -181,7 +181,7 @@ takes_whole z kept given zeros part more piece n s joined few some parts n_is ke
     ∙ ap (λ (l : List (List ℕ)). l ++ with_part (kept ++ part) []) a.same ∙ ap (λ (l : List (List ℕ)). frames_of given ++ l) (framed_is (kept ++ part) some ∙ ap (λ (l : List ℕ). l ∷ []) (sym kept_is)) in
     let stands : StandsBy stages.Ended z.kept.items (given ++ take n piece) = (ap is_too_long all_through ∙ too_long_end ((given ++ zeros) ++ part) ∙ a.short, ap open_of all_through ∙ open_end ((given ++ zeros) ++ part)) in
     record {
-      feeds = (omega (arith, n_is), omega (arith, n_is, len), framed, ap frames_of all_before ∙ a.same);
+      feeds = (omega (arith, n_is), omega (arith, n_is, len), stands.0, framed, ap frames_of all_before ∙ a.same);
       stands = record { room = room; by = rw stage_is stands };
     }
   where

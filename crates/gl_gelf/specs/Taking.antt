@@ -1,8 +1,8 @@
 -- What a reader of frames keeps of the bytes that it was given, and what it answers of more.
 use Rattle.std.specs.Prelude.{◌≡◌, ℕ, ◌-◌, ◌≤◌, ◌<◌, Bool, true, false, not, List, [], ◌∷◌, ◌++◌, length, take, vec_capacity, ◌==◌}
 use Rattle.std.specs.List.{prefix_len}
-use Rattle.gl_gelf.specs.declared.frames.Fed.{Fed}
-use Rattle.gl_gelf.specs.declared.frames.Fed.TheVariants as fed
+use Rattle.gl_base.specs.declared.fed.Fed.{Fed}
+use Rattle.gl_base.specs.declared.fed.Fed.TheVariants as fed
 use Rattle.gl_gelf.specs.declared.frames.Stage.{Stage}
 use Rattle.gl_gelf.specs.declared.frames.Stage.TheVariants as stages
 use Rattle.gl_gelf.specs.declared.frames.ZeroFrames.{ZeroFrames}
@@ -30,7 +30,7 @@ frame_of z = z.kept.items
 
 -- what is answered of a piece behind the bytes that were given, of which so many were taken
 abbrev pub Feeds : Fed → List ℕ → List ℕ → List ℕ → ℕ → Type 0
-Feeds fed.Whole frame given piece n = (0 < n) × (n ≤ length piece) × (frames_of (given ++ take n piece) ≡ frames_of given ++ frame ∷ []) × (frames_of (given ++ take (n - 1) piece) ≡ frames_of given)
+Feeds fed.Whole frame given piece n = (0 < n) × (n ≤ length piece) × (is_too_long (given ++ take n piece) ≡ false) × (frames_of (given ++ take n piece) ≡ frames_of given ++ frame ∷ []) × (frames_of (given ++ take (n - 1) piece) ≡ frames_of given)
 Feeds fed.Nothing frame given piece n = (n ≡ length piece) × (is_too_long (given ++ piece) ≡ false) × (frames_of (given ++ piece) ≡ frames_of given)
 Feeds fed.TooLong frame given piece n = (n ≡ length piece) × (is_too_long given ≡ false) × (is_too_long (given ++ piece) ≡ true) × (frames_of (given ++ piece) ≡ frames_of given)
 Feeds fed.Closed frame given piece n = (n ≡ length piece) × (is_too_long given ≡ true) × (frames_of (given ++ piece) ≡ frames_of given)

@@ -4,23 +4,11 @@ ghost use Rattle.gl_gelf.specs.declared.frames.Stage.TheVariants as stages;
 ghost use Rattle.gl_gelf.specs.Frames.{is_too_long};
 ghost use Rattle.gl_gelf.specs.Taking.{is_zero, is_not_zero, StandsBy, Stands, frame_of, Takes, Ends, skip_len};
 
+use gl_base::Fed;
 use std::alloc::{AllocError, Global};
 
 /// The most bytes that a frame may have.
 const MAX_FRAME: usize = 1_048_576;
-
-/// What a reader of frames answers.
-#[derive(Clone, Copy, Debug, PartialEq, Eq)]
-pub enum Fed {
-    /// All bytes were taken, and no frame ended.
-    Nothing,
-    /// A frame ended with the last byte that was taken.
-    Whole,
-    /// A frame passed its bound; no frame comes any more.
-    TooLong,
-    /// A frame was too long before.
-    Closed,
-}
 
 #[derive(Clone, Copy, Debug, PartialEq, Eq)]
 enum Stage {

@@ -1,14 +1,28 @@
-//! GELF: the frames of a connection, and the heads of chunks.
+//! GELF 1.1: the frames of a connection, the heads of chunks, and the fields of a message.
 //!
 //! `ZeroFrames` gives the frames that zero bytes end, piece by piece: whatever the cutting, the frames
 //! so far are those of all bytes so far (`specs/Frames`, `specs/Taking`). It takes its memory when it is
-//! made and none later. `chunk_head` tells the lawful chunks (`specs/Chunks`).
+//! made and none later. `chunk_head` tells the lawful chunks (`specs/Chunks`). `decode_gelf` gives
+//! exactly the fields that `specs/Decoding` defines of a payload, or the cause that it has none:
+//! timestamps are exact decimals (`specs/Decimals`), and of equal names the last counts
+//! (`specs/Members`). Its time is that of a sort of the members.
 #![tactic(auto)]
 
 mod chunk;
+mod decode;
+#[cfg(test)]
+mod decode_tests;
 mod frames;
+mod frames_law;
+mod members;
+mod moment;
+mod number;
+mod stop;
 #[cfg(test)]
 mod tests;
 
 pub use chunk::chunk_head;
-pub use frames::{Fed, ZeroFrames};
+pub use decode::decode_gelf;
+pub use frames::ZeroFrames;
+pub use frames_law::law_frames_begin;
+pub use gl_base::Fed;
