@@ -11,3 +11,12 @@ pub mod Decimals
 pub mod Naming
 pub mod Evaluating
 pub mod Sound
+pub mod Writing
+pub mod Spelling
+pub mod Relexing
+pub mod Numbering
+pub mod Rereading
+pub mod Lettering
+pub mod Lawful
+pub mod Polishing
+pub mod Speaking

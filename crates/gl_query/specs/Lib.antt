@@ -13,3 +13,4 @@ pub mod Patterns
 pub mod Attempts
 pub mod Matching
 pub mod Evaluation
+pub mod Printing

@@ -1,5 +1,5 @@
 -- The tree that the tokens of a text build.
-use Rattle.std.specs.Prelude.{◌≡◌, ℕ, List, [], ◌∷◌, map, if◌then◌else◌, Option, Some, None}
+use Rattle.std.specs.Prelude.{◌≡◌, ℕ, List, [], ◌∷◌, map, if◌then◌else◌, Option, Some, None, IsUtf8}
 use Rattle.gl_query.specs.declared.term.Node.{Node}
 use Rattle.gl_query.specs.declared.term.Term.TheVariants.{All}
 use Rattle.gl_query.specs.declared.token.Token.{Token}
@@ -39,6 +39,7 @@ read_tree ts = and_then (built_from begun ts) ended
 -- the nodes of a tree that was read from some text
 pub record IsRead (nodes : List Node) : Type 0 where
   pub text : List ℕ
+  pub utf8 : IsUtf8 text
   pub tree : Tree
   pub read : read_tree (units (tokens_of text)) ≡ Some tree
   pub nodes_are : nodes ≡ polish tree

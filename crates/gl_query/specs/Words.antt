@@ -1,6 +1,6 @@
 -- What a word and a phrase of a query say (this project).
 use Rattle.std.specs.Prelude.{ℕ, ◌+◌, ◌-◌, ◌*◌, ◌^◌, ◌==◌, Bool, true, false, not, ◌&&◌, List, [], ◌∷◌, ◌++◌, length, drop, slice_index, nat_lt, nat_le, ℤ, pos, neg_ℤ, Option, Some, None, if◌then◌else◌, codes}
-use Rattle.std.specs.Int.{is_in_range}
+use Rattle.std.specs.Char.{is_ascii_digit}
 use Rattle.std.specs.List.{list_any}
 use Rattle.std.specs.Str.{bytes_eq}
 use Rattle.gl_query.specs.declared.token.Comparison.{Comparison}
@@ -44,13 +44,10 @@ wildcard_term None word = if is_any_run word then All else Pattern None (pieces 
 abbrev pub word_term : Option (List ℕ) → List ℕ → Term
 word_term field word = if list_any is_wildcard (pieces false word) then wildcard_term field word else Text field (plain false word)
 
-abbrev pub is_digit : ℕ → Bool
-is_digit b = is_in_range 48 57 b
-
 -- The number that these digits write, counted on from n. There is none above 2 ^ 63.
 unfoldable pub magnitude_from : ℕ → List ℕ → Option ℕ
 magnitude_from n [] = Some n
-magnitude_from n (d ∷ ds) = if is_digit d && nat_le (n * 10 + (d - 48)) (2 ^ 63) then magnitude_from (n * 10 + (d - 48)) ds else None
+magnitude_from n (d ∷ ds) = if is_ascii_digit d && nat_le (n * 10 + (d - 48)) (2 ^ 63) then magnitude_from (n * 10 + (d - 48)) ds else None
 
 abbrev pub signed_number : (negative : Bool) → Option ℕ → Option ℤ
 signed_number negative None = None

@@ -1,11 +1,12 @@
 // The text of a whole number, without memory.
-ghost use Rattle.std.specs.Prelude.{◌≡◌, ◌<◌, ◌≤◌, ◌^◌, length, drop};
+ghost use Rattle.std.specs.Prelude.{◌≡◌, ◌<◌, ◌≤◌, ◌^◌, ◌++◌, length, drop, OnOk};
 ghost use Rattle.std.specs.Fmt.{decimal, signed_decimal};
 ghost use Rattle.std.specs.Str.{bytes_eq};
 ghost use Rattle.gl_query.specs.Patterns.{pattern_holds};
 
 use crate::pattern::pattern_holds;
 use crate::term::Piece;
+use std::alloc::AllocError;
 
 // The most bytes of a number's text.
 const MAX_LEN: usize = 20;
@@ -60,4 +61,13 @@ pub(crate) fn decimal_holds(pattern: &[Piece], number: i64) -> bool
     let mut digits = [0u8; MAX_LEN];
     let at = write_decimal(number, &mut digits);
     pattern_holds(pattern, &digits[at..])
+}
+
+/// Writes the number's text.
+pub(crate) fn push_decimal(out: &mut Vec<u8>, number: i64) -> Result<(), AllocError>
+    ensures { OnOk result (out.new.items ≡ out.old.items ++ signed_decimal number) }
+{
+    let mut digits = [0u8; MAX_LEN];
+    let at = write_decimal(number, &mut digits);
+    out.extend_from_slice(&digits[at..])
 }

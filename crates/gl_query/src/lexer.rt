@@ -6,7 +6,7 @@ use crate::token::{Comparison, Edge, Token};
 use gl_base::Items;
 use std::alloc::{AllocError, Global};
 
-fn ends_word(b: u8) -> bool
+pub(crate) fn ends_word(b: u8) -> bool
     ensures { result ≡ ends_word b }
 {
     b == b' '

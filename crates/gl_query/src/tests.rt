@@ -3,6 +3,7 @@ use crate::*;
 use gl_base::Text;
 use gl_fields::{FieldMap, Value};
 use std::alloc::{AllocError, Global};
+use std::process::Abort;
 use std::test::Fail;
 
 fn text(alloc: Global, text: &str) -> Result<Value, AllocError> {
@@ -20,10 +21,18 @@ fn sample(alloc: Global) -> Result<FieldMap, Fail> {
     Ok(fields)
 }
 
-#[test]
-fn what_queries_hold_of(rt: HostRuntime) -> Result<(), Fail> {
-    let alloc = rt.alloc();
+// Whether each query holds of the sample as its row says.
+fn each_holds(rt: &impl Abort, alloc: Global, rows: &[(&str, bool)]) -> Result<(), Fail> {
     let fields = sample(alloc)?;
+    for (query, expected) in rows {
+        let read = read_query(alloc, query)?;
+        assert_eq!(rt; matches(&read, &fields), *expected, "{query}");
+    }
+    Ok(())
+}
+
+#[test]
+fn what_words_and_phrases_hold_of(rt: HostRuntime) -> Result<(), Fail> {
     let rows = [
         ("level:>=3 AND message:\"disk full\"", true),
         ("level:>=5 AND message:\"disk full\"", false),
@@ -49,6 +58,13 @@ fn what_queries_hold_of(rt: HostRuntime) -> Result<(), Fail> {
         ("code:007", true),
         ("code:7", false),
         ("code:>=7", false),
+    ];
+    each_holds(&rt, rt.alloc(), &rows)
+}
+
+#[test]
+fn what_patterns_hold_of(rt: HostRuntime) -> Result<(), Fail> {
+    let rows = [
         ("level:? AND offset:-?", true),
         ("message:D?SK", true),
         ("message:d?", false),
@@ -59,6 +75,13 @@ fn what_queries_hold_of(rt: HostRuntime) -> Result<(), Fail> {
         ("full_message:gr?e", false),
         ("source:web\\-1", true),
         ("message:ful\\*", false),
+    ];
+    each_holds(&rt, rt.alloc(), &rows)
+}
+
+#[test]
+fn what_ranges_hold_of(rt: HostRuntime) -> Result<(), Fail> {
+    let rows = [
         ("level:[4 TO 4]", true),
         ("level:{4 TO 5]", false),
         ("level:[3 TO 4}", false),
@@ -72,6 +95,13 @@ fn what_queries_hold_of(rt: HostRuntime) -> Result<(), Fail> {
         ("level:>3", true),
         ("missing:a", false),
         ("NOT missing:a", true),
+    ];
+    each_holds(&rt, rt.alloc(), &rows)
+}
+
+#[test]
+fn what_operations_hold_of(rt: HostRuntime) -> Result<(), Fail> {
+    let rows = [
         ("nothing level:4", true),
         ("nothing level:5", false),
         ("level:4 OR level:5 AND level:6", true),
@@ -83,11 +113,7 @@ fn what_queries_hold_of(rt: HostRuntime) -> Result<(), Fail> {
         ("ANDY", false),
         ("\"\"", false),
     ];
-    for (query, expected) in &rows {
-        let read = read_query(alloc, query)?;
-        assert_eq!(rt; matches(&read, &fields), *expected, "{query}");
-    }
-    Ok(())
+    each_holds(&rt, rt.alloc(), &rows)
 }
 
 #[test]
@@ -189,5 +215,114 @@ fn many_stars_over_a_long_text(rt: HostRuntime) -> Result<(), Fail> {
     fields.set("message", Value::Text(Text::from_string(long)))?;
     assert!(rt; !matches(&read_query(alloc, "message:*a*a*a*a*b")?, &fields));
     assert!(rt; matches(&read_query(alloc, "message:*a*a*a*a*a")?, &fields));
+    Ok(())
+}
+
+// The printed text of a query's text.
+fn printed(alloc: Global, query: &str) -> Result<String, Fail> {
+    let read = read_query(alloc, query)?;
+    Ok(print_query(alloc, &read)?)
+}
+
+// Whether each query prints as its row says, and whether that prints as itself.
+fn each_prints(rt: &impl Abort, alloc: Global, rows: &[(&str, &str)]) -> Result<(), Fail> {
+    for (query, expected) in rows {
+        let text = printed(alloc, query)?;
+        assert_eq!(rt; text.as_str(), *expected, "{query}");
+        let again = printed(alloc, text.as_str())?;
+        assert_eq!(rt; again.as_str(), *expected, "{query}");
+    }
+    Ok(())
+}
+
+#[test]
+fn how_operations_print(rt: HostRuntime) -> Result<(), Fail> {
+    let rows = [
+        (
+            "level:>=3 AND message:\"disk full\"",
+            "(level:[3 TO *] AND message:\"disk full\")",
+        ),
+        ("", "*"),
+        (" * ", "*"),
+        ("NOT a", "(NOT \"a\")"),
+        ("!!a", "(NOT (NOT \"a\"))"),
+        ("a OR b AND c", "(\"a\" OR (\"b\" AND \"c\"))"),
+        ("(a OR b) AND c", "((\"a\" OR \"b\") AND \"c\")"),
+        ("a b||c", "(\"a\" OR \"b\" OR \"c\")"),
+        ("(a&&b) AND c", "((\"a\" AND \"b\") AND \"c\")"),
+        (
+            "NOT (a b) AND NOT c",
+            "((NOT (\"a\" OR \"b\")) AND (NOT \"c\"))",
+        ),
+        ("((a))", "\"a\""),
+    ];
+    each_prints(&rt, rt.alloc(), &rows)
+}
+
+#[test]
+fn how_terms_print(rt: HostRuntime) -> Result<(), Fail> {
+    let rows = [
+        ("größe:10", "größe:\"10\""),
+        (
+            "message:\"say \\\"hi\\\" \\\\ [bye]\"",
+            "message:\"say \\\"hi\\\" \\\\ [bye]\"",
+        ),
+        ("\\*", "\"*\""),
+        ("source:web-*", "source:web-*"),
+        ("ful\\**", "ful\\**"),
+        ("a\\ b\\:\\\\?", "a\\ b\\:\\\\?"),
+        ("**", "**"),
+        ("x:*", "x:*"),
+        ("_exists_:user", "_exists_:user"),
+        ("_exists_:\\NOT", "_exists_:\\NOT"),
+        ("\\AND:x", "\\AND:\"x\""),
+        ("\\_exists_:x", "\\_exists_:\"x\""),
+        ("my\\ field:x*", "my\\ field:x*"),
+        ("\\a:x", "a:\"x\""),
+    ];
+    each_prints(&rt, rt.alloc(), &rows)
+}
+
+#[test]
+fn how_ranges_print(rt: HostRuntime) -> Result<(), Fail> {
+    let rows = [
+        ("level:[4 TO 5}", "level:[4 TO 5}"),
+        ("level:{-5 TO *}", "level:{-5 TO *]"),
+        ("level:{* TO *}", "level:[* TO *]"),
+        ("level:>-1", "level:{-1 TO *]"),
+        ("level:<=007", "level:[* TO 7]"),
+        ("level:>=-0", "level:[0 TO *]"),
+        (
+            "level:<-9223372036854775808",
+            "level:[* TO -9223372036854775808}",
+        ),
+        (
+            "level:>9223372036854775807",
+            "level:{9223372036854775807 TO *]",
+        ),
+    ];
+    each_prints(&rt, rt.alloc(), &rows)
+}
+
+#[test]
+fn printed_text_past_the_limits(rt: HostRuntime) -> Result<(), Fail> {
+    let alloc = rt.alloc();
+    let deepest = printed(alloc, nested(alloc, 32, "!", "")?.as_str())?;
+    assert_eq!(rt; deepest.len(), 32 * 6 + 6);
+    assert_eq!(rt;
+        printed(alloc, deepest.as_str())?.as_str(),
+        deepest.as_str()
+    );
+    let deeper = printed(alloc, nested(alloc, 33, "!", "")?.as_str())?;
+    match read_query(alloc, deeper.as_str()) {
+        Ok(_) => assert!(rt; false),
+        Err(refusal) => assert_eq!(rt; refusal, QueryRefusal::BadQuery { at: 160 }),
+    }
+    let longer = printed(alloc, nested(alloc, 1000, "a ", "")?.as_str())?;
+    assert_eq!(rt; longer.len(), 7007 + 1);
+    match read_query(alloc, longer.as_str()) {
+        Ok(_) => assert!(rt; false),
+        Err(refusal) => assert_eq!(rt; refusal, QueryRefusal::BadQuery { at: 4096 }),
+    }
     Ok(())
 }

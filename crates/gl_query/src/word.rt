@@ -1,7 +1,8 @@
 // What a word and a phrase of a query say.
 ghost use Rattle.std.specs.Prelude.{◌≡◌, ◌==◌, ◌<◌, ◌≤◌, ◌^◌, length, not, ◌&&◌, false, IfOk, IfSome};
+ghost use Rattle.std.specs.Char.{is_ascii_digit};
 ghost use Rattle.std.specs.List.{list_any};
-ghost use Rattle.gl_query.specs.Words.{plain, piece_of, pieces, is_wildcard, is_any_run, word_term, is_digit, magnitude_from, signed_number, number_of, bound_of, limit_of, comparison_term};
+ghost use Rattle.gl_query.specs.Words.{plain, piece_of, pieces, is_wildcard, is_any_run, word_term, magnitude_from, signed_number, number_of, bound_of, limit_of, comparison_term};
 
 use crate::lexer::{byte_at, is_escape};
 use crate::term::{Limit, Piece, Term};
@@ -107,9 +108,9 @@ pub(crate) fn word_term(
 }
 
 fn is_digit(b: u8) -> bool
-    ensures { result ≡ is_digit b }
+    ensures { result ≡ is_ascii_digit b }
 {
-    b >= b'0' && b <= b'9'
+    b.is_ascii_digit()
 }
 
 // The number that digits write, none where it has more than 63 bits and isn't the first such.
