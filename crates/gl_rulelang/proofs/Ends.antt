@@ -9,7 +9,9 @@ use Rattle.std.proofs.lemmas.Slice.Eq.{starts_is}
 use Rattle.std.proofs.lemmas.List.Sums.{prefix_len-le-length, prefix_len_stops}
 use Rattle.std.proofs.lemmas.Str.{IsCharBoundary-after_ascii, IsCharBoundary-before_ascii, IsCharBoundary-end}
 use Rattle.gl_rulelang.specs.declared.text.Class.TheVariants.{Name, Line}
-use Rattle.gl_rulelang.specs.Bytes.{in_class, is_letter, is_digit, is_blank, string_len, comment_len, decimal}
+use Rattle.std.specs.Char.{is_ascii_digit}
+use Rattle.gl_base.specs.Digits.{decimal}
+use Rattle.gl_rulelang.specs.Bytes.{in_class, is_letter, is_blank, string_len, comment_len}
 use Rattle.gl_rulelang.specs.Tokens.{Lexeme, number, operator, sign}
 use Rattle.gl_rulelang.specs.declared.rule.Binary.TheVariants as ops
 use Rattle.gl_rulelang.specs.declared.token.Sign.TheVariants as signs
@@ -40,11 +42,11 @@ word_end text u h =
     let within = prefix_len-le-length (in_class Name) text in
     at_end text n (n - 1) (omega arith) u (omega arith) (name_ends text some)
 
-numeral_end : (text : List ℕ) → IsUtf8 text → is_digit (get_or text 0 0) ≡ true → Ends text (numeral_front text)
+numeral_end : (text : List ℕ) → IsUtf8 text → is_ascii_digit (get_or text 0 0) ≡ true → Ends text (numeral_front text)
 numeral_end text u h =
-    let n = prefix_len is_digit text in
+    let n = prefix_len is_ascii_digit text in
     let some = some_digits text h in
-    let within = prefix_len-le-length is_digit text in
+    let within = prefix_len-le-length is_ascii_digit text in
     let digits = take n text in
     choice (ltb (decimal 0 digits) (2 ^ 63)) text (lexeme (number (pos (decimal 0 digits))) n) bad
     (λ t. at_end text n (n - 1) (omega arith) u (omega arith) (digits_end text some)) (λ f. tt)
@@ -125,7 +127,7 @@ front_ends [] u = tt
 front_ends (b ∷ text) u =
     choice (is_blank b) (b ∷ text) _ _ (λ t. one b text u (grind arith))
     (λ f. choice (is_letter b) (b ∷ text) _ _ (λ t. word_end (b ∷ text) u t)
-    (λ f. choice (is_digit b) (b ∷ text) _ _ (λ t. numeral_end (b ∷ text) u t)
+    (λ f. choice (is_ascii_digit b) (b ∷ text) _ _ (λ t. numeral_end (b ∷ text) u t)
     (λ f. choice (eqb b 34) (b ∷ text) _ _ (λ t. string_end b text (string_len false text) u refl)
     (λ f. choice (eqb b 47) (b ∷ text) _ _ (λ t. slash_end b text u (omega (arith, eqb-true b 47 t)))
     (λ f. punctuation_end b text u)))))

@@ -335,30 +335,35 @@ IsArgument anywhere = ⊥
 IsArgument first_argument = Unit {0}
 IsArgument next_argument = Unit {0}
 
-frame_levels : (kind : Bool) (f : List ℕ) (given : List (Option (List ℕ) × Tree)) (this : Option (List ℕ)) (stack : List Open) → levels (frame kind f given this ∷ stack) ≤ suc (levels stack)
-frame_levels true f given this stack = let e : levels (frame true f given this ∷ stack) ≡ 1 + levels stack = sum_by-cons level_of (frame true f given this) stack in omega (arith, e)
-frame_levels false f given this stack = let e : levels (frame false f given this ∷ stack) ≡ 0 + levels stack = sum_by-cons level_of (frame false f given this) stack in omega (arith, e)
+-- a call that is an expression stands round its arguments, an action doesn't
+abbrev pub frame_level : Bool → ℕ
+frame_level true = 1
+frame_level false = 0
 
-frame_parentheses : (kind : Bool) (f : List ℕ) (given : List (Option (List ℕ) × Tree)) (this : Option (List ℕ)) (stack : List Open) → parentheses (frame kind f given this ∷ stack) ≡ suc (parentheses stack)
+pub frame_levels : (kind : Bool) (f : List ℕ) (given : List (Option (List ℕ) × Tree)) (this : Option (List ℕ)) (stack : List Open) → levels (frame kind f given this ∷ stack) ≡ frame_level kind + levels stack
+frame_levels true f given this stack = sum_by-cons level_of (called f given this) stack
+frame_levels false f given this stack = sum_by-cons level_of (performed f given this) stack
+
+pub frame_parentheses : (kind : Bool) (f : List ℕ) (given : List (Option (List ℕ) × Tree)) (this : Option (List ℕ)) (stack : List Open) → parentheses (frame kind f given this ∷ stack) ≡ suc (parentheses stack)
 frame_parentheses true f given this stack = let e : parentheses (frame true f given this ∷ stack) ≡ 1 + parentheses stack = sum_by-cons parenthesis_of (frame true f given this) stack in omega (arith, e)
 frame_parentheses false f given this stack = let e : parentheses (frame false f given this ∷ stack) ≡ 1 + parentheses stack = sum_by-cons parenthesis_of (frame false f given this) stack in omega (arith, e)
 
-levels-prefix : (s : Unary) (stack : List Open) → levels (prefix s ∷ stack) ≡ 1 + levels stack
+pub levels-prefix : (s : Unary) (stack : List Open) → levels (prefix s ∷ stack) ≡ 1 + levels stack
 levels-prefix s stack = sum_by-cons level_of (prefix s) stack
 
-levels-infix : (op : Binary) (a : Tree) (stack : List Open) → levels (infix_ op a ∷ stack) ≡ 1 + levels stack
+pub levels-infix : (op : Binary) (a : Tree) (stack : List Open) → levels (infix_ op a ∷ stack) ≡ 1 + levels stack
 levels-infix op a stack = sum_by-cons level_of (infix_ op a) stack
 
-levels-paren : (stack : List Open) → levels (paren ∷ stack) ≡ 0 + levels stack
+pub levels-paren : (stack : List Open) → levels (paren ∷ stack) ≡ 0 + levels stack
 levels-paren stack = sum_by-cons level_of paren stack
 
-parentheses-prefix : (s : Unary) (stack : List Open) → parentheses (prefix s ∷ stack) ≡ 0 + parentheses stack
+pub parentheses-prefix : (s : Unary) (stack : List Open) → parentheses (prefix s ∷ stack) ≡ 0 + parentheses stack
 parentheses-prefix s stack = sum_by-cons parenthesis_of (prefix s) stack
 
-parentheses-infix : (op : Binary) (a : Tree) (stack : List Open) → parentheses (infix_ op a ∷ stack) ≡ 0 + parentheses stack
+pub parentheses-infix : (op : Binary) (a : Tree) (stack : List Open) → parentheses (infix_ op a ∷ stack) ≡ 0 + parentheses stack
 parentheses-infix op a stack = sum_by-cons parenthesis_of (infix_ op a) stack
 
-parentheses-paren : (stack : List Open) → parentheses (paren ∷ stack) ≡ 1 + parentheses stack
+pub parentheses-paren : (stack : List Open) → parentheses (paren ∷ stack) ≡ 1 + parentheses stack
 parentheses-paren stack = sum_by-cons parenthesis_of paren stack
 
 maybe_moves : (stack : List Open) (start : Start) (x : List ℕ) → IsArgument start → levels stack < 64 → move stack (wants start) (name x) ≡ goes stack (maybe_named x)
@@ -370,7 +375,7 @@ colon_moves : (kind : Bool) (f : List ℕ) (given : List (Option (List ℕ) × T
 colon_moves true f given stack x = refl
 colon_moves false f given stack x = refl
 
-names : (kind : Bool) (n : Option (List ℕ)) (xs : List Lexeme) (f : List ℕ) (given : List (Option (List ℕ) × Tree)) (stack : List Open) (start : Start) (ts mid : Tokens) → IsArgument start → suc (levels stack) < 64
+names : (kind : Bool) (n : Option (List ℕ)) (xs : List Lexeme) (f : List ℕ) (given : List (Option (List ℕ) × Tree)) (stack : List Open) (start : Start) (ts mid : Tokens) → IsArgument start → frame_level kind + levels stack < 64
     → Begins (naming n ++ xs) ts mid
     → (us : Tokens) × (begin : Start) × (run ts (frame kind f given None ∷ stack) (wants start) ≡ run us (frame kind f given n ∷ stack) (wants begin)) × Begins xs us mid
 names kind None xs f given stack start ts mid a low h = (ts, start, refl, h)
@@ -452,13 +457,13 @@ mutual
       g.1 ∙ reads_call true f given stack g.0 mid l g.2 (omega (arith, lv)) (omega (arith, pn))
 
   -- a call from behind its parenthesis on
-  pub reads_call : (kind : Bool) (f : List ℕ) (given : Forms) (stack : List Open) (ts mid : Tokens) → AreLawful given → Begins (first_spelled given) ts mid → levels stack + suc (heights (row (pairs given))) ≤ 64 → parentheses stack + suc (all_nested given) ≤ 64
+  pub reads_call : (kind : Bool) (f : List ℕ) (given : Forms) (stack : List Open) (ts mid : Tokens) → AreLawful given → Begins (first_spelled given) ts mid → frame_level kind + levels stack + heights (row (pairs given)) ≤ 64 → parentheses stack + suc (all_nested given) ≤ 64
       → run ts (frame kind f [] None ∷ stack) (wants first_argument) ≡ run mid stack (finished kind (call f (row (pairs given))))
   reads_call kind f no_more stack ts mid l h lv pn =
       let g = goes_on (sign signs.Close) [] ts mid (frame kind f [] None ∷ stack) (wants first_argument) stack (finished kind (call f (row []))) h (closes_empty kind f stack) in
       g.1 ∙ ap (λ (x : Tokens). run x stack (finished kind (call f (row [])))) g.2
   reads_call kind f (one_more n e more) stack ts mid l h lv pn =
-      let low : suc (levels stack) < 64 = omega (arith, lv, height_some (meant e)) in
+      let low : frame_level kind + levels stack < 64 = omega (arith, lv, height_some (meant e)) in
       let g = names kind n (spelled e ++ rest_spelled more) f [] stack first_argument ts mid tt low h in
       let p = split (spelled e) (rest_spelled more) g.0 mid g.3 in
       let here = frame kind f [] n ∷ stack in
@@ -467,7 +472,7 @@ mutual
 
   -- a call from behind an argument on
   reads_rest : (kind : Bool) (f : List ℕ) (given : List (Option (List ℕ) × Tree)) (this : Option (List ℕ)) (e : Form) (more : Forms) (stack : List Open) (ts mid : Tokens) → IsLawful e → AreLawful more → Begins (rest_spelled more) ts mid
-      → levels stack + suc (heights (row (pairs more))) ≤ 64 → parentheses stack + suc (all_nested more) ≤ 64
+      → frame_level kind + levels stack + heights (row (pairs more)) ≤ 64 → parentheses stack + suc (all_nested more) ≤ 64
       → run ts (pending e ++ frame kind f given this ∷ stack) (has (last e)) ≡ run mid stack (finished kind (call f (row (given ++ (this, meant e) ∷ pairs more))))
   reads_rest kind f given this e no_more stack ts mid le l h lv pn =
       let whole = completes e 0 (frame kind f given this ∷ stack) le (omega arith) in
@@ -479,7 +484,7 @@ mutual
       let so_far = given ++ (this, meant e) ∷ [] in
       let shut = ap parted whole ∙ parts_frame kind f given this stack (meant e) in
       let a = goes_on (sign signs.Comma) (naming n ++ (spelled d ++ rest_spelled more)) ts mid (pending e ++ frame kind f given this ∷ stack) (has (last e)) (frame kind f so_far None ∷ stack) (wants next_argument) h shut in
-      let low : suc (levels stack) < 64 = omega (arith, lv, height_some (meant d)) in
+      let low : frame_level kind + levels stack < 64 = omega (arith, lv, height_some (meant d)) in
       let g = names kind n (spelled d ++ rest_spelled more) f so_far stack next_argument a.0 mid tt low a.2 in
       let p = split (spelled d) (rest_spelled more) g.0 mid g.3 in
       let here = frame kind f so_far n ∷ stack in

@@ -1,9 +1,15 @@
+pub mod Accepted
 pub mod Cuts
 pub mod Ends
 pub mod Escapes
 pub mod Forms
+pub mod Lexing
 pub mod Numbers
+pub mod PipelineBack
+pub mod PipelineForms
 pub mod Quoting
+pub mod RoundTrip
+pub mod RuleForms
 pub mod Runs
 pub mod Shown
 pub mod StageSteps

@@ -5,19 +5,20 @@ use Rattle.std.specs.List.{prefix_len}
 use Rattle.std.specs.Option.{SomeIff}
 use Rattle.std.specs.Result.{OkIff, result_ok}
 use Rattle.std.proofs.lemmas.Str.Parse.{IsDigitsTest, IsNumeralModel, numerals_by_fold}
-use Rattle.gl_rulelang.specs.Bytes.{is_digit, decimal}
+use Rattle.std.specs.Char.{is_ascii_digit}
+use Rattle.gl_base.specs.Digits.{decimal}
 
 abbrev pub AreDigits : List ℕ → Type 0
-AreDigits ds = prefix_len is_digit ds ≡ length ds
+AreDigits ds = prefix_len is_ascii_digit ds ≡ length ds
 
-digit_parts : (b : Bool) (c : ℕ) (cs : List ℕ) → cond b (1 + prefix_len is_digit cs) 0 ≡ suc (length cs) → (b ≡ true) × AreDigits cs
+digit_parts : (b : Bool) (c : ℕ) (cs : List ℕ) → cond b (1 + prefix_len is_ascii_digit cs) 0 ≡ suc (length cs) → (b ≡ true) × AreDigits cs
 digit_parts true c cs h = (refl, omega arith)
 digit_parts false c cs h = absurd (omega arith)
 
 tests : IsDigitsTest AreDigits
 tests = record {
   empty = refl;
-  parts = λ c cs h. let p = digit_parts (is_digit c) c cs h in (grind (arith, p.0), p.1);
+  parts = λ c cs h. let p = digit_parts (is_ascii_digit c) c cs h in (grind (arith, p.0), p.1);
   more = λ c cs h p. grind arith;
 }
 

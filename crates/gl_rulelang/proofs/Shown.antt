@@ -60,7 +60,7 @@ mutual
   shown_means (binary op a b) = ap₂ (binary op) (operand_means (is_operation a) (form_of a) ∙ shown_means a) (operand_means (is_operation b) (form_of b) ∙ shown_means b)
   shown_means (call f given) = ap (call f) (shown_row given)
 
-  shown_row : (given : Arguments) → row (pairs (forms_of given)) ≡ given
+  pub shown_row : (given : Arguments) → row (pairs (forms_of given)) ≡ given
   shown_row none = refl
   shown_row (argument n e given) = ap₂ (argument n) (shown_means e) (shown_row given)
 
@@ -77,7 +77,7 @@ mutual
       (omega (arith, low.0, operand_level a), omega (arith, low.1, operand_level b), operand_lawful (is_operation a) (form_of a) (shown_lawful a), operand_lawful (is_operation b) (form_of b) (shown_lawful b))
   shown_lawful (call f given) = all_lawful given
 
-  all_lawful : (given : Arguments) → AreLawful (forms_of given)
+  pub all_lawful : (given : Arguments) → AreLawful (forms_of given)
   all_lawful none = tt
   all_lawful (argument n e given) = (shown_lawful e, all_lawful given)
 

@@ -1,5 +1,6 @@
--- The bytes of a text: letters, digits, white space, strings, comments and numbers. Letters are ASCII.
-use Rattle.std.specs.Prelude.{ℕ, suc, ◌+◌, ◌-◌, ◌*◌, Bool, true, false, not, ◌&&◌, ◌||◌, List, [], ◌∷◌, Option, Some, None, option_map, ◌==◌, if◌then◌else◌}
+-- The bytes of a text: letters, white space, strings and comments. Letters are ASCII.
+use Rattle.std.specs.Prelude.{ℕ, suc, Bool, true, false, not, ◌&&◌, ◌||◌, List, [], ◌∷◌, Option, Some, None, option_map, ◌==◌, if◌then◌else◌}
+use Rattle.std.specs.Char.{is_ascii_digit}
 use Rattle.std.specs.Int.{is_in_range}
 use Rattle.gl_rulelang.specs.declared.text.Class.{Class}
 use Rattle.gl_rulelang.specs.declared.text.Class.TheVariants as classes
@@ -7,11 +8,8 @@ use Rattle.gl_rulelang.specs.declared.text.Class.TheVariants as classes
 abbrev pub is_letter : ℕ → Bool
 is_letter b = is_in_range 65 90 b || is_in_range 97 122 b || (b == 95)
 
-abbrev pub is_digit : ℕ → Bool
-is_digit b = is_in_range 48 57 b
-
 abbrev pub is_name_byte : ℕ → Bool
-is_name_byte b = is_letter b || is_digit b
+is_name_byte b = is_letter b || is_ascii_digit b
 
 -- space, tab, carriage return and line feed
 abbrev pub is_blank : ℕ → Bool
@@ -20,7 +18,7 @@ is_blank b = (b == 32) || (b == 9) || (b == 13) || (b == 10)
 -- kinds of bytes that stand in a row
 abbrev pub in_class : Class → ℕ → Bool
 in_class classes.Name b = is_name_byte b
-in_class classes.Digit b = is_digit b
+in_class classes.Digit b = is_ascii_digit b
 in_class classes.Plain b = not (b == 92)
 in_class classes.Line b = not (b == 10)
 in_class classes.Bare b = not (b == 34) && not (b == 92) && not (b == 10) && not (b == 13) && not (b == 9)
@@ -39,8 +37,3 @@ string_len false (b ∷ bytes) = if b == 34 then Some 0 else option_map suc (str
 abbrev pub comment_len : Bool → List ℕ → Option ℕ
 comment_len behind_star [] = None
 comment_len behind_star (b ∷ bytes) = if behind_star && (b == 47) then Some 1 else option_map suc (comment_len (b == 42) bytes)
-
--- the number that decimal digits write behind a number that was read before
-abbrev pub decimal : ℕ → List ℕ → ℕ
-decimal n [] = n
-decimal n (b ∷ bytes) = decimal (n * 10 + (b - 48)) bytes

@@ -7,7 +7,9 @@ use Rattle.gl_rulelang.specs.declared.token.Sign.TheVariants as signs
 use Rattle.gl_rulelang.specs.declared.text.Class.TheVariants as classes
 use Rattle.gl_rulelang.specs.declared.front.Front.{Front as CodeFront}
 use Rattle.gl_rulelang.specs.declared.front.Front.TheVariants as code
-use Rattle.gl_rulelang.specs.Bytes.{in_class, is_letter, is_digit, is_blank, string_len, comment_len, decimal}
+use Rattle.std.specs.Char.{is_ascii_digit}
+use Rattle.gl_base.specs.Digits.{decimal}
+use Rattle.gl_rulelang.specs.Bytes.{in_class, is_letter, is_blank, string_len, comment_len}
 use Rattle.gl_rulelang.specs.Tokens.{Lexeme, name, string, number, operator, sign, token_view, unescaped}
 
 pub data Front : Type 0 where
@@ -126,7 +128,7 @@ front_of [] = bad
 front_of (b ∷ text) =
     if is_blank b then blank 1
     else if is_letter b then word_front (b ∷ text)
-    else if is_digit b then numeral_front (b ∷ text)
+    else if is_ascii_digit b then numeral_front (b ∷ text)
     else if b == 34 then string_front (string_len false text) text
     else if b == 47 then slash text
     else punctuation b text

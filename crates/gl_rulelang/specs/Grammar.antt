@@ -5,9 +5,9 @@ use Rattle.gl_rulelang.specs.declared.rule.Unary.TheVariants as prefixes
 use Rattle.gl_rulelang.specs.declared.rule.Binary.{Binary}
 use Rattle.gl_rulelang.specs.declared.rule.Binary.TheVariants as ops
 use Rattle.gl_rulelang.specs.declared.token.Sign.TheVariants as signs
-use Rattle.gl_rulelang.specs.Tree.{Tree, text, whole, boolean, field, variable, unary, binary, call, row, Arguments, none, argument, is_operation}
+use Rattle.gl_rulelang.specs.Tree.{Tree, text, whole, boolean, field, variable, unary, binary, call, row, Arguments, none, argument, is_operation, height}
 use Rattle.gl_rulelang.specs.Tokens.{Lexeme, name, string, number, operator, sign, Tokens, end, token, first}
-use Rattle.gl_rulelang.specs.Nesting.{precedence, prefix_precedence, threshold}
+use Rattle.gl_rulelang.specs.Nesting.{deepest, precedence, prefix_precedence, threshold}
 
 mutual
   pub data Form : Type 0 where
@@ -125,6 +125,15 @@ Begins (x ∷ xs) (token l at ts) behind = (l ≡ x) × Begins xs ts behind
 -- what ends a condition, and an action: `then` and `;`
 abbrev pub EndsExpression : Tokens → Type 0
 EndsExpression ts = (first ts ≡ Some (sign signs.Then)) ⊎ (first ts ≡ Some (sign signs.Semicolon))
+
+-- The tokens begin with those of a lawful form within the limits, which means this tree, and go on with these.
+pub record Spells (ts : Tokens) (t : Tree) (behind : Tokens) : Type 0 where
+  pub form : Form
+  pub lawful : IsLawful form
+  pub begins : Begins (spelled form) ts behind
+  pub means : meant form ≡ t
+  pub high : height t ≤ deepest
+  pub nests : nested form ≤ deepest
 
 -- in parentheses where it is an operation
 abbrev pub operand_form : Bool → Form → Form

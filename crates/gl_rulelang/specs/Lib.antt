@@ -11,3 +11,4 @@ pub mod Rules
 pub mod Pipelines
 pub mod Printing
 pub mod Grammar
+pub mod Sentences

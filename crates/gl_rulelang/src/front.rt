@@ -1,12 +1,12 @@
 ghost use Rattle.std.specs.Prelude.{◌≡◌, ◌<◌, ◌≤◌, ◌-◌, [], ◌∷◌, length, take, drop, true, false, slice_index, option_map};
 ghost use Rattle.gl_rulelang.specs.Tokens.{token_view};
 ghost use Rattle.gl_rulelang.specs.Fronts.{Ends, front_of, front_view, word, word_front, numeral_front, string_front, slash, single, pair, message_front, punctuation};
-ghost use Rattle.gl_rulelang.specs.Bytes.{string_len, is_letter, is_digit};
+ghost use Rattle.std.specs.Char.{is_ascii_digit};
+ghost use Rattle.gl_rulelang.specs.Bytes.{string_len, is_letter};
 
 use crate::rule::Binary;
 use crate::text::{
-    Class, before, behind, comment_len, is_blank, is_digit, is_letter, number, quoted, run_len,
-    string_len,
+    Class, before, behind, comment_len, is_blank, is_letter, number, quoted, run_len, string_len,
 };
 use crate::token::{Sign, Token};
 
@@ -129,7 +129,7 @@ fn word_front(text: &str) -> Front<'_>
 }
 
 fn numeral_front(text: &str) -> Front<'_>
-    requires { is_digit (slice_index text.now 0) ≡ true }
+    requires { is_ascii_digit (slice_index text.now 0) ≡ true }
     ensures { front_view result ≡ numeral_front text.now }
 {
     let len = run_len(Class::Digit, text.as_bytes());
@@ -173,7 +173,7 @@ fn by_first_byte(text: &str) -> Front<'_>
             if is_letter(*first) {
                 return word_front(text);
             }
-            if is_digit(*first) {
+            if first.is_ascii_digit() {
                 return numeral_front(text);
             }
             match *first {

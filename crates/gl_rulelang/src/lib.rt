@@ -1,17 +1,16 @@
 //! The texts of rules and pipelines: reading and printing.
 //!
-//! A text is cut into tokens, and the tokens are read. `read_rule` and `read_pipeline` say exactly what they
-//! answer: the value, or the first fault. A token or comment that doesn't read comes first, wherever it stands.
-//! Else the first token that can't follow those before it is refused at its place, and an expression that
-//! nests too deep at the token that makes it so.
+//! `read_rule` and `read_pipeline` give a value exactly where the tokens of the text are those of a lawful rule, or of
+//! stages; each text has at most one. Else they say the first fault. A token or comment that doesn't read comes first,
+//! wherever it stands. Else the first token that can't follow those before it is refused at its place, and an
+//! expression that nests too deep at the token that makes it so.
+//! What `print_rule` and `print_pipeline` print of a value that was read reads back to that value.
+//!
 //! The definitions, in the order in which they build on each other: `specs/Bytes` and `Fronts` (what stands at the
-//! front of a text), `Cutting` (the tokens of a whole text), `Tree` (a rule as a plain value), `Nesting` and
-//! `Expressions` (what each token of an expression may follow), `Rules`, `Pipelines`, `Printing` and `Grammar`.
-//! `specs/Grammar` says which forms expressions have, apart from how they are read. Three laws join the two: each
-//! form is read to the tree that it means, forms that are spelled alike mean the same tree, and the form in which
-//! a tree is shown is read to that tree.
-//! Printing says exactly which text it gives. That its bytes are cut into the tokens of that form, so that the
-//! text reads back to the same value, is tested, not proved.
+//! front of a text), `Cutting` (the tokens of a whole text), `Tree` (a rule as a plain value), `Grammar` (the forms of
+//! expressions), `Sentences` (rules and pipelines as their tokens) and `Printing`. Which fault it is they don't say:
+//! that is in `Nesting`, `Expressions` (what each token of an expression may follow), `Rules` and `Pipelines`.
+//!
 //! Reading takes a time that grows with the length of the text, and a stack that doesn't grow with it.
 #![tactic(auto)]
 
@@ -32,7 +31,10 @@ mod tests;
 mod text;
 mod token;
 
-pub use laws::{law_forms_are_read, law_one_tree, law_shown_form};
+pub use laws::{
+    law_forms_are_read, law_one_pipeline, law_one_rule, law_one_tree, law_read_is_a_form,
+    law_shown_form,
+};
 pub use pipeline::{LAST_STAGE, Mode, Pipeline, Stage};
 pub use print::{print_pipeline, print_rule};
 pub use read::read_rule;

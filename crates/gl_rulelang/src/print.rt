@@ -1,10 +1,12 @@
-ghost use Rattle.std.specs.Prelude.{◌≡◌, ◌++◌, ◌∷◌, [], OnOk, IfOk, map, codes, length, slice_index_or, false, ◌<◌, ◌≤◌};
+ghost use Rattle.std.specs.Prelude.{ℕ, List, Ok, ◌≡◌, ◌++◌, ◌∷◌, [], OnOk, IfOk, map, codes, length, slice_index_or, false, ◌<◌, ◌≤◌};
 ghost use Rattle.std.specs.List.{flat_map};
 ghost use Rattle.std.specs.Fmt.{decimal as decimal_text, signed_decimal};
 ghost use Rattle.gl_rulelang.specs.declared.text.Class.TheVariants as Class;
 ghost use Rattle.gl_rulelang.specs.Bytes.{in_class};
 ghost use Rattle.std.specs.String.{string_bytes};
 ghost use Rattle.gl_rulelang.specs.Tree.{is_operation, tree_of, call_of, args_view, row, action_of, rule_of};
+ghost use Rattle.gl_rulelang.specs.Rules.{rule_text};
+ghost use Rattle.gl_rulelang.specs.Pipelines.{pipeline_text};
 ghost use Rattle.gl_rulelang.specs.Printing.{spelled_byte, quote, prefix_text, infix_text, operand, name_text, tree_text, listed, call_text, step_text, rule_print, mode_text, rule_line, stage_text, pipeline_print};
 
 use crate::pipeline::{Mode, Pipeline, Stage};
@@ -236,6 +238,15 @@ fn push_actions(out: &mut String, actions: &[Action]) -> Result<(), AllocError>
 
 /// The text of a rule, in the one layout in which rules are shown.
 pub fn print_rule(alloc: Global, rule: &Rule) -> Result<Text, AllocError>
+    ensures printed { IfOk result (λ text. text ≡ rule_print (rule_of rule.now)) }
+    // What a text says is printed so that it reads back to the same rule.
+    ensures reads_back { IfOk result (λ text. (source : List ℕ) → rule_text source ≡ Ok (rule_of rule.now)
+        → rule_text text ≡ Ok (rule_of rule.now)) }
+{
+    rule_printed(alloc, rule)
+}
+
+fn rule_printed(alloc: Global, rule: &Rule) -> Result<Text, AllocError>
     ensures { IfOk result (λ text. text ≡ rule_print (rule_of rule.now)) }
 {
     let mut out = String::new(alloc);
@@ -298,6 +309,15 @@ fn push_stages(out: &mut String, stages: &[Stage]) -> Result<(), AllocError>
 
 /// The text of a pipeline, in the one layout in which pipelines are shown.
 pub fn print_pipeline(alloc: Global, pipeline: &Pipeline) -> Result<Text, AllocError>
+    ensures printed { IfOk result (λ text. text ≡ pipeline_print pipeline.now) }
+    // What a text says is printed so that it reads back to the same pipeline.
+    ensures reads_back { IfOk result (λ text. (source : List ℕ) → pipeline_text source ≡ Ok pipeline.now
+        → pipeline_text text ≡ Ok pipeline.now) }
+{
+    pipeline_printed(alloc, pipeline)
+}
+
+fn pipeline_printed(alloc: Global, pipeline: &Pipeline) -> Result<Text, AllocError>
     ensures { IfOk result (λ text. text ≡ pipeline_print pipeline.now) }
 {
     let mut out = String::new(alloc);

@@ -1,10 +1,11 @@
-ghost use Rattle.std.specs.Prelude.{◌≡◌, ◌<◌, ◌≤◌, ◌↔◌, IsTrue, OnOk, map, suc, Some, None};
+ghost use Rattle.std.specs.Prelude.{◌≡◌, ◌<◌, ◌≤◌, ◌↔◌, IsTrue, IfOk, OnOk, map, suc, Ok, Some, None};
 ghost use Rattle.gl_rulelang.specs.declared.token.Sign.TheVariants as signs;
-ghost use Rattle.gl_rulelang.specs.Tree.{tree_of, call_of, action_of, rule_of, perform, assign};
+ghost use Rattle.gl_rulelang.specs.Tree.{tree_of, call_of, action_of, rule_of, perform, assign, RuleTree};
 ghost use Rattle.gl_rulelang.specs.Tokens.{left, tokens_from};
 ghost use Rattle.gl_rulelang.specs.Nesting.{performed};
 ghost use Rattle.gl_rulelang.specs.Expressions.{anywhere, first_argument, wants, run};
 ghost use Rattle.gl_rulelang.specs.Faults.{Gives, Answers};
+ghost use Rattle.gl_rulelang.specs.Sentences.{IsRule};
 ghost use Rattle.gl_rulelang.specs.Rules.{Passes, count, sign_at, string_at, name_at, expression_at, performed_at, let_at, call_at, action_at, steps_at, whole, rule_at, rule_text};
 
 use crate::cut::cut;
@@ -146,8 +147,8 @@ fn rule(alloc: Global, mut cursor: Cursor<'_>) -> Result<Rule, TextRefusal>
     })
 }
 
-/// The rule that a text is.
-pub fn read_rule(alloc: Global, text: &str) -> Result<Rule, TextRefusal>
+/// What a text is read as.
+fn rule_from(alloc: Global, text: &str) -> Result<Rule, TextRefusal>
     ensures { Answers rule_of result (rule_text text.now) }
 {
     let tokens = cut(alloc, text)?;
@@ -158,4 +159,16 @@ pub fn read_rule(alloc: Global, text: &str) -> Result<Rule, TextRefusal>
             end: text.len(),
         },
     )
+}
+
+/// The rule that a text is.
+pub fn read_rule(alloc: Global, text: &str) -> Result<Rule, TextRefusal>
+    // What is read is spelled so.
+    ensures found { IfOk result (λ r. IsRule text.now (rule_of r)) }
+    // What is spelled so is read, unless memory runs out.
+    ensures only { (r : RuleTree) → IsRule text.now r → Answers rule_of result (Ok r) }
+    // Which fault it is, and where.
+    ensures exact { Answers rule_of result (rule_text text.now) }
+{
+    rule_from(alloc, text)
 }

@@ -1,8 +1,9 @@
-ghost use Rattle.std.specs.Prelude.{◌≡◌, ◌≤◌, [], length, suc, Some, None, OnOk};
+ghost use Rattle.std.specs.Prelude.{◌≡◌, ◌≤◌, [], length, suc, Some, None, Ok, IfOk, OnOk};
 ghost use Rattle.std.specs.List.{prefix_len};
 ghost use Rattle.gl_rulelang.specs.Tokens.{left, tokens_from};
 ghost use Rattle.gl_rulelang.specs.Faults.{Gives, Answers};
 ghost use Rattle.gl_rulelang.specs.Rules.{count};
+ghost use Rattle.gl_rulelang.specs.Sentences.{IsPipeline};
 ghost use Rattle.gl_rulelang.specs.Pipelines.{last_stage, has_number, is_lower, with_stage, number_at, mode_at, rule_name_at, names_at, stage_at, stages_at, pipeline_at, pipeline_text};
 
 use crate::cut::cut;
@@ -147,8 +148,8 @@ fn pipeline(alloc: Global, mut cursor: Cursor<'_>) -> Result<Pipeline, TextRefus
     Ok(Pipeline { name, stages })
 }
 
-/// The pipeline that a text is.
-pub fn read_pipeline(alloc: Global, text: &str) -> Result<Pipeline, TextRefusal>
+/// What a text is read as.
+fn pipeline_from(alloc: Global, text: &str) -> Result<Pipeline, TextRefusal>
     ensures { Answers (λ p. p) result (pipeline_text text.now) }
 {
     let tokens = cut(alloc, text)?;
@@ -159,4 +160,16 @@ pub fn read_pipeline(alloc: Global, text: &str) -> Result<Pipeline, TextRefusal>
             end: text.len(),
         },
     )
+}
+
+/// The pipeline that a text is.
+pub fn read_pipeline(alloc: Global, text: &str) -> Result<Pipeline, TextRefusal>
+    // What is read is spelled so.
+    ensures found { IfOk result (λ p. IsPipeline text.now p) }
+    // What is spelled so is read, unless memory runs out.
+    ensures only { (p : Pipeline) → IsPipeline text.now p → Answers (λ p. p) result (Ok p) }
+    // Which fault it is, and where.
+    ensures exact { Answers (λ p. p) result (pipeline_text text.now) }
+{
+    pipeline_from(alloc, text)
 }

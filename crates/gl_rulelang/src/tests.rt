@@ -169,42 +169,119 @@ fn depth(rt: HostRuntime) -> Result<(), Fail> {
     Ok(())
 }
 
+/// What reading a pipeline gives: its printed text, or the refusal.
+fn read_and_print_pipeline(alloc: Global, text: &str) -> Result<String, TextRefusal> {
+    let pipeline = read_pipeline(alloc, text)?;
+    let printed = print_pipeline(alloc, &pipeline)?;
+    Ok(String::from_str(alloc, printed.as_str())?)
+}
+
+fn is_text(outcome: Result<String, TextRefusal>, wanted: &str) -> bool {
+    match outcome {
+        Ok(text) => text.as_str() == wanted,
+        Err(_) => false,
+    }
+}
+
 #[test]
-fn printed_rule(rt: HostRuntime) -> Result<(), Fail> {
-    let text = "rule \"r1\" when has_field(\"a\") then set_field(\"b\", 1); let x = -y; end";
-    let printed =
-        "rule \"r1\"\nwhen\n  has_field(\"a\")\nthen\n  set_field(\"b\", 1);\n  let x = -y;\nend\n";
-    let rule = read_rule(rt.alloc(), text).ok().ok_or("a rule")?;
-    let shown = print_rule(rt.alloc(), &rule)?;
-    assert_eq!(rt; shown.as_str(), printed);
-    let again = read_rule(rt.alloc(), printed)
-        .ok()
-        .ok_or("the printed rule")?;
-    let shown = print_rule(rt.alloc(), &again)?;
-    assert_eq!(rt; shown.as_str(), printed);
+fn actions(rt: HostRuntime) -> Result<(), Fail> {
+    let alloc = rt.alloc();
+    for (times, is_deep) in [(63, false), (64, true)] {
+        let mut text = String::from_str(alloc, "rule \"r\" when a then f(")?;
+        text.push_str(
+            repeated(alloc, "(", times, "1")
+                .ok()
+                .ok_or("memory")?
+                .as_str(),
+        )?;
+        text.push_str(
+            repeated(alloc, ")", times, "); end")
+                .ok()
+                .ok_or("memory")?
+                .as_str(),
+        )?;
+        let result = read_and_print(alloc, text.as_str());
+        if is_deep {
+            assert!(rt; is_refused(result, TextRefusal::TooDeep), "{times}");
+        } else {
+            let printed = "rule \"r\"\nwhen\n  a\nthen\n  f(1);\nend\n";
+            assert!(rt; is_text(result, printed), "{times}");
+        }
+    }
     Ok(())
 }
 
 #[test]
-fn pipelines(rt: HostRuntime) -> Result<(), Fail> {
-    let alloc = rt.alloc();
-    let text = "pipeline \"p\" stage 2 match pass stage 0 match all rule \"r\"; end";
-    let printed = "pipeline \"p\"\nstage 0 match all\n  rule \"r\";\nstage 2 match pass\nend\n";
-    let pipeline = read_pipeline(alloc, text).ok().ok_or("a pipeline")?;
-    let shown = print_pipeline(alloc, &pipeline)?;
-    assert_eq!(rt; shown.as_str(), printed);
-    let again = read_pipeline(alloc, printed)
-        .ok()
-        .ok_or("the printed pipeline")?;
-    let shown = print_pipeline(alloc, &again)?;
-    assert_eq!(rt; shown.as_str(), printed);
-    let twice = read_pipeline(
-        alloc,
-        "pipeline \"p\" stage 0 match all stage 0 match all end",
-    );
-    assert!(rt; matches!(twice, Err(TextRefusal::Unexpected { at: 37 })));
-    let late = read_pipeline(alloc, "pipeline \"p\" stage 10000 match all end");
-    assert!(rt; matches!(late, Err(TextRefusal::Unexpected { at: 19 })));
+fn printed_rules(rt: HostRuntime) -> Result<(), Fail> {
+    let rows = [
+        (
+            "rule \"r1\" when has_field(\"a\") then set_field(\"b\", 1); end",
+            "rule \"r1\"\nwhen\n  has_field(\"a\")\nthen\n  set_field(\"b\", 1);\nend\n",
+        ),
+        (
+            "rule \"\" when not true then let x=-y; f(n:1,z); let x = f() ; end // done",
+            "rule \"\"\nwhen\n  !true\nthen\n  let x = -y;\n  f(n: 1, z);\n  let x = f();\nend\n",
+        ),
+    ];
+    for (text, printed) in rows {
+        assert!(rt;
+            is_text(read_and_print(rt.alloc(), text), printed),
+            "{text}"
+        );
+        assert!(rt;
+            is_text(read_and_print(rt.alloc(), printed), printed),
+            "{printed}"
+        );
+    }
+    Ok(())
+}
+
+#[test]
+fn printed_pipelines(rt: HostRuntime) -> Result<(), Fail> {
+    let rows = [
+        (
+            "pipeline \"p\" stage 0 match all rule \"r\"; end",
+            "pipeline \"p\"\nstage 0 match all\n  rule \"r\";\nend\n",
+        ),
+        (
+            "pipeline \"p\" stage 9999 match pass stage 0 match either rule \"b\"; rule \"a\"; end",
+            "pipeline \"p\"\nstage 0 match either\n  rule \"b\";\n  rule \"a\";\nstage 9999 match pass\nend\n",
+        ),
+        ("pipeline \"\\\"\"end", "pipeline \"\\\"\"\nend\n"),
+    ];
+    for (text, printed) in rows {
+        assert!(rt;
+            is_text(read_and_print_pipeline(rt.alloc(), text), printed),
+            "{text}"
+        );
+        assert!(rt;
+            is_text(read_and_print_pipeline(rt.alloc(), printed), printed),
+            "{printed}"
+        );
+    }
+    Ok(())
+}
+
+#[test]
+fn refused_pipelines(rt: HostRuntime) -> Result<(), Fail> {
+    let rows = [
+        ("pipeline \"p\" stage 0 match all stage 0 match all end", 37),
+        ("pipeline \"p\" stage 10000 match all end", 19),
+        ("pipeline \"p\" stage 1 match none end", 27),
+        ("pipeline \"p\" stage 1 match all rule \"r\" end", 40),
+        ("pipeline \"p\" rule \"r\"; end", 13),
+        ("pipeline \"p\" end end", 17),
+        ("pipeline \"p\"", 12),
+    ];
+    for (text, at) in rows {
+        assert!(rt;
+            is_refused(
+                read_and_print_pipeline(rt.alloc(), text),
+                TextRefusal::Unexpected { at }
+            ),
+            "{text}"
+        );
+    }
     Ok(())
 }
 

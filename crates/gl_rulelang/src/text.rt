@@ -2,7 +2,9 @@ ghost use Rattle.std.specs.Prelude.{◌≡◌, ◌<◌, ◌≤◌, ◌^◌, ◌=
 ghost use Rattle.std.specs.List.{prefix_len};
 ghost use Rattle.std.specs.Option.{SomeIff};
 ghost use Rattle.gl_rulelang.specs.Tokens.{escaped, unescaped};
-ghost use Rattle.gl_rulelang.specs.Bytes.{in_class, is_letter, is_digit, is_name_byte, is_blank, is_escape, string_len, comment_len, decimal};
+ghost use Rattle.std.specs.Char.{is_ascii_digit};
+ghost use Rattle.gl_base.specs.Digits.{decimal};
+ghost use Rattle.gl_rulelang.specs.Bytes.{in_class, is_letter, is_name_byte, is_blank, is_escape, string_len, comment_len};
 
 use gl_base::Text;
 use std::alloc::{AllocError, Global};
@@ -27,12 +29,6 @@ pub fn is_letter(byte: u8) -> bool
     byte.is_ascii_alphabetic() || byte == b'_'
 }
 
-pub fn is_digit(byte: u8) -> bool
-    ensures { result ≡ is_digit byte }
-{
-    byte.is_ascii_digit()
-}
-
 /// Space, tab, carriage return and line feed.
 pub fn is_blank(byte: u8) -> bool
     ensures { result ≡ is_blank byte }
@@ -44,8 +40,8 @@ fn is_in(class: Class, byte: u8) -> bool
     ensures { result ≡ in_class class byte }
 {
     match class {
-        Class::Name => is_letter(byte) || is_digit(byte),
-        Class::Digit => is_digit(byte),
+        Class::Name => is_letter(byte) || byte.is_ascii_digit(),
+        Class::Digit => byte.is_ascii_digit(),
         Class::Plain => byte != b'\\',
         Class::Line => byte != b'\n',
         Class::Bare => {
@@ -111,7 +107,7 @@ pub fn comment_len(bytes: &[u8]) -> Option<usize>
 
 /// The number that these digits write, where it is below 2 to the power of 63.
 pub fn number(digits: &str) -> Option<i64>
-    requires digits { prefix_len is_digit digits.now ≡ length digits.now }
+    requires digits { prefix_len is_ascii_digit digits.now ≡ length digits.now }
     requires some { 0 < length digits.now }
     ensures { SomeIff result (decimal 0 digits.now < 2 ^ 63) (pos (decimal 0 digits.now)) }
 {

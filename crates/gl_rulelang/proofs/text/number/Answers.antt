@@ -2,7 +2,7 @@ use Rattle.std.proofs.Common.{◌<◌, ◌^◌, length}
 use Rattle.std.specs.Prelude.{pos}
 use Rattle.std.specs.Int.{w64}
 use Rattle.std.proofs.lemmas.Str.Parse.{parse_signed_digits}
-use Rattle.gl_rulelang.specs.Bytes.{decimal}
+use Rattle.gl_base.specs.Digits.{decimal}
 use Rattle.gl_rulelang.proofs.Numbers.{digits_model, read_number}
 use Rattle.gl_rulelang.proofs.text.number.Goals as goal
 
