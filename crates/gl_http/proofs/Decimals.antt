@@ -5,7 +5,8 @@ use Rattle.std.proofs.lemmas.Bool.{and_parts}
 use Rattle.std.proofs.lemmas.List.{take-append-drop, length-take}
 use Rattle.std.proofs.lemmas.List.Folds.{list_all-append}
 use Rattle.std.proofs.Math.Nat.{mul-le-mul_left}
-use Rattle.gl_http.specs.Fields.{is_digit, decimal_after}
+use Rattle.std.specs.Char.{is_ascii_digit}
+use Rattle.gl_base.specs.Digits.{decimal}
 
 pow_some : (k : ℕ) → 1 ≤ 10 ^ k
 pow_some zero = omega arith
@@ -14,13 +15,13 @@ pow_some (suc k) =
     let pow : 10 ^ suc k ≡ 10 * 10 ^ k = omega arith in
     rw pow (omega (arith, rest))
 
-pub decimal_short : (k n : ℕ) (ds : List ℕ) → list_all is_digit ds ≡ true → length ds ≤ k → decimal_after n ds < (n + 1) * 10 ^ k
+pub decimal_short : (k n : ℕ) (ds : List ℕ) → list_all is_ascii_digit ds ≡ true → length ds ≤ k → decimal n ds < (n + 1) * 10 ^ k
 decimal_short k n [] all few =
     let one : 1 ≤ 10 ^ k = pow_some k in
     omega (arith, mul-le-mul_left (n + 1) one)
 decimal_short zero n (d ∷ ds) all few = absurd (omega arith)
 decimal_short (suc k) n (d ∷ ds) all few =
-    let both = and_parts (is_digit d) (list_all is_digit ds) all in
+    let both = and_parts (is_ascii_digit d) (list_all is_ascii_digit ds) all in
     let small : d - 48 ≤ 9 = let e = both.0 in grind arith in
     let rest = decimal_short k (n * 10 + (d - 48)) ds both.1 (omega arith) in
     let more : n * 10 + (d - 48) + 1 ≤ 10 * (n + 1) = omega arith in
@@ -28,25 +29,25 @@ decimal_short (suc k) n (d ∷ ds) all few =
     let pow : 10 ^ suc k ≡ 10 * 10 ^ k = omega arith in
     rw pow (omega (arith, rest, up))
 
-pub digits_take : (ds : List ℕ) (n : ℕ) → list_all is_digit ds ≡ true → list_all is_digit (take n ds) ≡ true
+pub digits_take : (ds : List ℕ) (n : ℕ) → list_all is_ascii_digit ds ≡ true → list_all is_ascii_digit (take n ds) ≡ true
 digits_take ds n all =
-    let whole : list_all is_digit (take n ds ++ drop n ds) ≡ true = ap (list_all is_digit) (take-append-drop n ds) ∙ all in
-    let both = and_parts (list_all is_digit (take n ds)) (list_all is_digit (drop n ds)) (sym (list_all-append is_digit (take n ds) (drop n ds)) ∙ whole) in
+    let whole : list_all is_ascii_digit (take n ds ++ drop n ds) ≡ true = ap (list_all is_ascii_digit) (take-append-drop n ds) ∙ all in
+    let both = and_parts (list_all is_ascii_digit (take n ds)) (list_all is_ascii_digit (drop n ds)) (sym (list_all-append is_ascii_digit (take n ds) (drop n ds)) ∙ whole) in
     both.0
 
 -- what was read before a digit of at most 18
-pub below : (ds : List ℕ) (i : ℕ) → list_all is_digit ds ≡ true → length ds ≤ 18 → i < length ds → decimal_after 0 (take i ds) < 100000000000000000
+pub below : (ds : List ℕ) (i : ℕ) → list_all is_ascii_digit ds ≡ true → length ds ≤ 18 → i < length ds → decimal 0 (take i ds) < 100000000000000000
 below ds i all few at =
     let short = decimal_short 17 0 (take i ds) (digits_take ds i all) (omega (arith, length-take i ds, few, at)) in
     omega (arith, short)
 
 -- one digit more
-next_digit : (n : ℕ) (ds : List ℕ) (i : ℕ) → i < length ds → decimal_after n (take (suc i) ds) ≡ decimal_after n (take i ds) * 10 + (get_or ds i 0 - 48)
+next_digit : (n : ℕ) (ds : List ℕ) (i : ℕ) → i < length ds → decimal n (take (suc i) ds) ≡ decimal n (take i ds) * 10 + (get_or ds i 0 - 48)
 next_digit n [] i at = absurd (omega arith)
 next_digit n (d ∷ ds) zero at = refl
 next_digit n (d ∷ ds) (suc i) at = next_digit (n * 10 + (d - 48)) ds i (omega arith)
 
-pub digit_read : (n : ℕ) (ds : List ℕ) (i : ℕ) → i < length ds → decimal_after n (take (i + 1) ds) ≡ decimal_after n (take i ds) * 10 + (get_or ds i 0 - 48)
+pub digit_read : (n : ℕ) (ds : List ℕ) (i : ℕ) → i < length ds → decimal n (take (i + 1) ds) ≡ decimal n (take i ds) * 10 + (get_or ds i 0 - 48)
 digit_read n ds i at =
     let one : suc i ≡ i + 1 = omega arith in
-    subst (λ m. decimal_after n (take m ds) ≡ decimal_after n (take i ds) * 10 + (get_or ds i 0 - 48)) one (next_digit n ds i at)
+    subst (λ m. decimal n (take m ds) ≡ decimal n (take i ds) * 10 + (get_or ds i 0 - 48)) one (next_digit n ds i at)

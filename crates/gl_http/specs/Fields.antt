@@ -1,8 +1,10 @@
 -- What the fields of a head say. A field is its name and its value without the white space around it.
-use Rattle.std.specs.Prelude.{ℕ, ◌+◌, ◌-◌, ◌*◌, Bool, ◌&&◌, ◌||◌, not, nat_lt, nat_le, List, [], ◌∷◌, length, take, drop, codes, Option, Some, None, if◌then◌else◌, bytes_eq}
+use Rattle.std.specs.Prelude.{ℕ, Bool, ◌&&◌, ◌||◌, not, nat_lt, nat_le, List, [], ◌∷◌, length, take, drop, codes, Option, Some, None, if◌then◌else◌, bytes_eq}
 use Rattle.std.specs.List.{list_all}
 use Rattle.std.specs.Int.{is_in_range}
 use Rattle.std.specs.Str.{str_eq_ignore_ascii_case}
+use Rattle.std.specs.Char.{is_ascii_digit}
+use Rattle.gl_base.specs.Digits.{decimal}
 
 abbrev pub Fields : Type 0
 Fields = List (List ℕ × List ℕ)
@@ -12,17 +14,9 @@ abbrev pub first_value : List ℕ → Fields → Option (List ℕ)
 first_value name [] = None
 first_value name (f ∷ fs) = if str_eq_ignore_ascii_case f.0 name then Some f.1 else first_value name fs
 
-abbrev pub is_digit : ℕ → Bool
-is_digit b = is_in_range 48 57 b
-
--- the number that digits write behind a number that was read before
-abbrev pub decimal_after : ℕ → List ℕ → ℕ
-decimal_after n [] = n
-decimal_after n (d ∷ ds) = decimal_after (n * 10 + (d - 48)) ds
-
 -- 1 to 18 digits
 abbrev pub is_length : List ℕ → Bool
-is_length text = nat_lt 0 (length text) && nat_le (length text) 18 && list_all is_digit text
+is_length text = nat_lt 0 (length text) && nat_le (length text) 18 && list_all is_ascii_digit text
 
 -- if the field has this name, its value is this text
 abbrev pub is_alike : List ℕ → List ℕ → List ℕ × List ℕ → Bool
@@ -31,7 +25,7 @@ is_alike name text f = not (str_eq_ignore_ascii_case f.0 name) || bytes_eq f.1 t
 abbrev pub lengths_by : Fields → Option (List ℕ) → Option (Option ℕ)
 lengths_by fields None = Some None
 lengths_by fields (Some text) =
-    if is_length text && list_all (is_alike (codes "Content-Length") text) fields then Some (Some (decimal_after 0 text)) else None
+    if is_length text && list_all (is_alike (codes "Content-Length") text) fields then Some (Some (decimal 0 text)) else None
 
 -- the body's length, if one is stated; `None` where a Content-Length isn't 1 to 18 digits, or two differ in their text (RFC 9112, section 6.3)
 abbrev pub stated_length : Fields → Option (Option ℕ)

@@ -3,6 +3,8 @@ ghost use Rattle.std.specs.Prelude.{◌≡◌, ◌≤◌, IfOk, All, true, lengt
 ghost use Rattle.std.specs.List.{list_all};
 ghost use Rattle.std.specs.Str.{str_eq_ignore_ascii_case};
 ghost use Rattle.httparse.specs.Spans.{IsHeaderWithin, header_bytes};
+ghost use Rattle.std.specs.Char.{is_ascii_digit};
+ghost use Rattle.gl_base.specs.Digits.{decimal};
 ghost use Rattle.gl_http.specs.Fields as fields;
 
 use gl_base::Text;
@@ -65,7 +67,7 @@ fn are_alike(buf: &[u8], headers: &[HeaderSpan], name: &[u8], text: &[u8]) -> bo
 }
 
 fn are_digits(bytes: &[u8]) -> bool
-    ensures { result ≡ list_all fields.is_digit bytes.now }
+    ensures { result ≡ list_all is_ascii_digit bytes.now }
 {
     bytes.iter().all(|b| b.is_ascii_digit())
 }
@@ -82,8 +84,8 @@ fn is_length(text: &[u8]) -> bool
 // The number that at most 18 digits write.
 fn number(digits: &[u8]) -> u64
     requires few { length digits.now ≤ 18 }
-    requires digits { list_all fields.is_digit digits.now ≡ true }
-    ensures { result ≡ fields.decimal_after 0 digits.now }
+    requires digits { list_all is_ascii_digit digits.now ≡ true }
+    ensures { result ≡ decimal 0 digits.now }
 {
     let mut n = 0;
     for d in digits {

@@ -1,6 +1,6 @@
 use Rattle.std.proofs.Common.{◌≡◌, take}
-use Rattle.gl_http.specs.Fields.{decimal_after}
+use Rattle.gl_base.specs.Digits.{decimal}
 use Rattle.gl_http.proofs.fields.number.Given as goal
 
 abbrev pub invariant-loop-d : goal.invariant-loop-d
-invariant-loop-d l = l.n ≡ decimal_after 0 (take l.d-index l.digits)
+invariant-loop-d l = l.n ≡ decimal 0 (take l.d-index l.digits)
