@@ -1,0 +1,3 @@
+pub mod Ahead
+pub mod Naming
+pub mod Pairs
