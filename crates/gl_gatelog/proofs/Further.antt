@@ -52,15 +52,22 @@ next_bounds log s place p n is within = at (same_segment log s (place.0, place.1
     at true same e = inl (ap (λ (q : Place). q.0) e, ap (λ (q : Place). q.1) e, λ below. stays same (omega (arith, below, ap (λ (q : Place). q.0) e)))
     at false other e = inr (ap (λ (q : Place). q.0) e, ap (λ (q : Place). q.1) e, goes other)
 
-module _ (v : OpeningView) (b : List Batch) (d : DiskState) (batch : Batch) (so_far : ReadBehind v b d) (hand : IsAtHand v d) (stands : BatchAt v.area v.log.place.1 batch) where
+module _ (v : OpeningView) (b : List Batch) (d : DiskState) (batch : Batch) (so_far : ReadBehind v b d) (hand : IsAtHand v d) (held : v.log.place.1 < length v.area) (stands : BatchAt v.area v.log.place.1 batch) where
   at_end : v.log.place ≡ log_end v.log.log v.log.segment_size b
   at_end = ap (λ (x : GateView). x.place) so_far.shown
 
   there : BatchAt (d.reads (area_of v.log.log (log_end v.log.log v.log.segment_size b).0)) (log_end v.log.log v.log.segment_size b).1 batch
-  there = subst (λ (p : Place). BatchAt (d.reads (area_of v.log.log p.0)) p.1 batch) at_end (subst (λ (l : List ℕ). BatchAt l v.log.place.1 batch) hand.same stands)
+  there = subst (λ (p : Place). BatchAt (d.reads (area_of v.log.log p.0)) p.1 batch) at_end (subst (λ (l : List ℕ). BatchAt l v.log.place.1 batch) (hand.same held) stands)
 
-  here : IsDurable (area_of v.log.log v.log.place.0) (d.reads (area_of v.log.log v.log.place.0)) d
-  here = subst (λ (l : List ℕ). IsDurable (area_of v.log.log v.log.place.0) l d) hand.same hand.durable
+  hand_on : behind_batch v.log.place batch ≡ next v.log.log v.log.segment_size v.log.place batch → IsAtHand (record { log = appended v.log batch; has_begin = v.has_begin; area = v.area }) d
+  hand_on is =
+      let area = hand.same held in
+      record {
+        durable = subst (λ (p : Place). IsDurable (area_of v.log.log p.0) (d.reads (area_of v.log.log p.0)) d) is hand.durable;
+        more = subst (λ (p : Place). 1 < length (d.reads (area_of v.log.log p.0))) is hand.more;
+        gate = subst (λ (p : Place). p.1 < length (d.reads (area_of v.log.log p.0))) is (subst (λ (l : List ℕ). v.log.place.1 + size batch < length l) area stands.followed);
+        same = λ _. subst (λ (p : Place). v.area ≡ d.reads (area_of v.log.log p.0)) is area;
+      }
 
   read_on : ReadBehind (record { log = appended v.log batch; has_begin = v.has_begin; area = v.area }) (b ++ batch ∷ []) d
   read_on = record {
@@ -83,16 +90,10 @@ module _ (v : OpeningView) (b : List Batch) (d : DiskState) (batch : Batch) (so_
         (λ stays. so_far.durable k (omega (arith, lt, ap (λ (p : Place). p.0) stays)))
         (λ goes. ⊎_elim
         (λ below. so_far.durable k below)
-        (λ same. subst (λ (n : ℕ). IsDurable (area_of v.log.log n) (d.reads (area_of v.log.log n)) d) (sym same) here)
+        (λ same. subst (λ (n : ℕ). IsDurable (area_of v.log.log n) (d.reads (area_of v.log.log n)) d) (sym same) hand.durable)
         (below_or_at k v.log.place.0 (omega (arith, lt, ap (λ (p : Place). p.0) goes))))
         (next_cases v.log.log v.log.segment_size v.log.place batch);
-    at_hand = λ gated.
-        let same : v.log.place.0 ≡ (next v.log.log v.log.segment_size v.log.place batch).0 = sym (ap (λ (x : Bool). (if x then behind_batch v.log.place batch else next_segment v.log.place).0) gated) in
-        record {
-          same = subst (λ (n : ℕ). v.area ≡ d.reads (area_of v.log.log n)) same hand.same;
-          durable = subst (λ (n : ℕ). IsDurable (area_of v.log.log n) v.area d) same hand.durable;
-          more = hand.more;
-        };
+    at_hand = λ gated. hand_on (sym (ap (λ (x : Bool). if x then behind_batch v.log.place batch else next_segment v.log.place) gated));
   }
     where
       below_or_at : (k n : ℕ) → k < n + 1 → (k < n) ⊎ (k ≡ n)
@@ -103,14 +104,26 @@ module _ (v : OpeningView) (b : List Batch) (d : DiskState) (batch : Batch) (so_
       let e : record { log = appended v.log batch; has_begin = v.has_begin; area = v.area } ≡ w = λ i. record { log = sym is.log i; has_begin = sym is.has_begin i; area = sym same i } in
       subst (λ (x : OpeningView). ReadBehind x (b ++ batch ∷ []) d) e read_on
 
+-- the area of the next batch is let go
+gone : (v : OpeningView) (b : List Batch) (d : DiskState) → ReadBehind v b d → ReadBehind (record v { area = [] }) b d
+gone v b d so_far = record {
+  with_begin = so_far.with_begin;
+  sized = so_far.sized;
+  holds = so_far.holds;
+  shown = so_far.shown;
+  durable = so_far.durable;
+  at_hand = λ gated. let hand = so_far.at_hand gated in record { durable = hand.durable; more = hand.more; gate = hand.gate; same = λ none. absurd (omega (arith, none)) };
+}
+
 -- at hand no batch is left, or one more
-module _ (v w : OpeningView) (b : List Batch) (d : DiskState) (so_far : ReadBehind v b d) (gated : v.log.gated ≡ true) where
+module _ (v w : OpeningView) (b : List Batch) (d : DiskState) (so_far : ReadBehind v b d) (gated : v.log.gated ≡ true) (held : v.log.place.1 < length v.area) where
   waits : IsShut v.log.place.1 v.area → HasEnded v d
   waits shut c now = subst (λ (x : Bool). Waits x v.log.place.1 (c (area_of v.log.log v.log.place.0))) (sym gated)
-      (subst (λ (l : List ℕ). Waits true v.log.place.1 l) (sym ((so_far.at_hand gated).durable c now)) (shut, (so_far.at_hand gated).more))
+      (subst (λ (l : List ℕ). Waits true v.log.place.1 l) (sym ((so_far.at_hand gated).durable c now))
+      (subst (λ (l : List ℕ). IsShut v.log.place.1 l) ((so_far.at_hand gated).same held) shut, (so_far.at_hand gated).more))
 
-  pub told : (found : Option (Vec (Vec ℕ Global) Global)) → MatchOption found (w ≡ v) (λ r. IsFurther (batch_of r.items) v w × (w.area ≡ v.area))
+  pub told : (found : Option (Vec (Vec ℕ Global) Global)) → MatchOption found (w ≡ record v { area = [] }) (λ r. IsFurther (batch_of r.items) v w × (w.area ≡ v.area))
       → MatchOption found (IsShut v.log.place.1 v.area) (λ r. BatchAt v.area v.log.place.1 (batch_of r.items))
       → MatchOption found (HasRead w b d × HasEnded w d) (λ r. HasRead w (b ++ batch_of r.items ∷ []) d)
-  told None is shut = subst (λ (x : OpeningView). HasRead x b d × HasEnded x d) (sym is) (inl so_far, waits shut)
-  told (Some r) is stands = inl (read_further v b d (batch_of r.items) so_far (so_far.at_hand gated) stands w is.0 is.1)
+  told None is shut = subst (λ (x : OpeningView). HasRead x b d × HasEnded x d) (sym is) (inl (gone v b d so_far), waits shut)
+  told (Some r) is stands = inl (read_further v b d (batch_of r.items) so_far (so_far.at_hand gated) held stands w is.0 is.1)

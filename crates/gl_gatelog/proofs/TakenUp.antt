@@ -44,7 +44,7 @@ module _ (v : OpeningView) (b : List Batch) (d : DiskState) (so_far : ReadBehind
     closed c now = subst (λ (p : Place). IsClosed p.1 (c (area_of v.log.log p.0))) at_end (shut_or_none v.log.gated v.log.place.1 (c (area_of v.log.log v.log.place.0)) (ended c now))
 
     same_last : (c : Image) → d.may_leave c → (gated : Bool) → v.log.gated ≡ gated → 0 < v.log.place.1 → c (area_of v.log.log v.log.place.0) ≡ d.reads (area_of v.log.log v.log.place.0)
-    same_last c now true gated some = (so_far.at_hand gated).durable c now ∙ (so_far.at_hand gated).same
+    same_last c now true gated some = (so_far.at_hand gated).durable c now
     same_last c now false gated some = absurd (omega (arith, some, (subst (λ (x : Bool). Waits x v.log.place.1 (c (area_of v.log.log v.log.place.0))) gated (ended c now)).0))
 
     log_is : (c : Image) → d.may_leave c → LogIs v.log.log v.log.segment_size b c

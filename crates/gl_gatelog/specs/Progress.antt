@@ -13,7 +13,7 @@ pub record OpeningView : Type 0 where
   pub log : GateView
   -- whether it has its begin batch
   pub has_begin : Bool
-  -- the bytes of the area that is being read
+  -- the bytes that are held of the area that is being read
   pub area : List ℕ
 
 -- a log of which nothing is read
@@ -29,11 +29,13 @@ unread log segment_size limit gated = record {
   stopped = false;
 }
 
--- the area of the next batch is at hand as the disk reads it, and every image has it so
+-- A gate stands at the next batch's place, and every image has the area as the disk reads it. What is held is that area, unless
+-- it was let go.
 pub record IsAtHand (v : OpeningView) (disk : DiskState) : Type 0 where
-  pub same : v.area ≡ disk.reads (area_of v.log.log v.log.place.0)
-  pub durable : IsDurable (area_of v.log.log v.log.place.0) v.area disk
-  pub more : 1 < length v.area
+  pub durable : IsDurable (area_of v.log.log v.log.place.0) (disk.reads (area_of v.log.log v.log.place.0)) disk
+  pub more : 1 < length (disk.reads (area_of v.log.log v.log.place.0))
+  pub gate : v.log.place.1 < length (disk.reads (area_of v.log.log v.log.place.0))
+  pub same : v.log.place.1 < length v.area → v.area ≡ disk.reads (area_of v.log.log v.log.place.0)
 
 -- Behind the begin batch these batches were read, in areas that every image has as the disk reads them.
 pub record ReadBehind (v : OpeningView) (batches : List Batch) (disk : DiskState) : Type 0 where

@@ -1,5 +1,5 @@
 -- The fields of a reader, and what contracts see of them.
-use Rattle.std.specs.Prelude.{◌≡◌, ℕ, ◌+◌, ◌*◌, ◌^◌, ◌≤◌, ◌<◌, true, false, length}
+use Rattle.std.specs.Prelude.{◌≡◌, ℕ, ◌+◌, ◌*◌, ◌^◌, ◌≤◌, ◌<◌, false, length}
 use Rattle.std.specs.List.{All}
 use Rattle.gl_gatelog.specs.declared.reader.Opening.TheInside.{Inside}
 use Rattle.gl_gatelog.specs.Progress.{OpeningView}
@@ -24,7 +24,6 @@ pub record IsReading (s : Inside) : Type 0 where
   pub segment : s.segment ≤ 1999999999
   pub within : s.byte ≤ s.bytes
   pub no_gate : s.gated ≡ false → s.byte ≡ 0
-  pub gate : s.gated ≡ true → s.byte < length s.area.items
   pub held : length s.area.items < 2 ^ 63
   -- no segment but the last holds as many as 2 ^ 32 bytes of batches
   pub least : 4096 ≤ s.segment_size

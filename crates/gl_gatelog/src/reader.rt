@@ -26,7 +26,7 @@ use std::marker::Model;
 /// A log that is being read from its begin on, batch by batch.
 ///
 /// `begin` and `next` write nothing. Each area is synced before it is read, so that from then on a crash
-/// leaves it as it was read. One area at a time is held in memory.
+/// leaves it as it was read. One area at a time is held in memory, and none behind the log's end.
 #[derive(Drop)]
 pub struct Opening {
     alloc: Global,
@@ -218,35 +218,36 @@ impl Opening {
 
     // Reads the area of the next batch where it isn't at hand, and answers whether a gate stands there.
     fn load<D: Disk>(&mut self, disk: &mut D) -> Result<bool, Outside>
-        ensures gated { IfOk result (λ gated. gated ≡ self.new.log.gated) }
+        ensures hand { IfOk result (λ there. there ≡ true → (self.new.log.gated ≡ true) × (self.new.log.place.1 < length self.new.area)) }
         ensures value { IsNoFurther self.old self.new }
         ensures read { Tells (D.state disk.old) → (b : List Batch) → ReadBehind self.old b (D.state disk.old) → ReadBehind self.new b (D.state disk.new) }
-        ensures ended { Tells (D.state disk.old) → IfOk result (λ gated. gated ≡ false → AllWait false (area_of self.new.log.log self.new.log.place.0) self.new.log.place.1 (D.state disk.new)) }
+        ensures ended { Tells (D.state disk.old) → (b : List Batch) → ReadBehind self.old b (D.state disk.old) → IfOk result (λ there. there ≡ false → HasEnded self.new (D.state disk.new)) }
         ensures bounded { self.new.log.bytes < 2 ^ 64 }
         ensures unchanged { Tells (D.state disk.old) → IsUnchanged (D.state disk.old) (D.state disk.new) }
         ensures only_read { Tells (D.state disk.old) → LeavesOnly (D.state disk.old) (D.state disk.new) ((D.state disk.old).may_leave) }
         ensures cause { HasCause Failed (D.faults disk.old) (D.faults disk.new) result }
         ensures tells { (D.state disk.new).tells ≡ (D.state disk.old).tells }
     {
-        if self.gated {
+        if self.gated && self.byte < self.area.len() as u64 {
             return Ok(true);
         }
         let number = area_number(self.log, self.segment);
         // The area before is let go first, so that never two are held.
         self.area = Vec::new(self.alloc);
         let area = read_area(self.alloc, disk, number)?;
-        let gated = area.len() > 1;
+        let there = area.len() > 1 && self.byte < area.len() as u64;
         self.area = area;
-        self.gated = gated;
-        Ok(gated)
+        self.gated = self.gated || there;
+        Ok(there)
     }
 
-    // The batch at hand, or none where its gate is shut.
+    // The batch at hand, or none where its gate is shut. Then the area is let go.
     fn take(&mut self) -> Result<Option<Vec<Vec<u8>>>, LogFault>
         requires gated { self.old.log.gated ≡ true }
+        requires held { self.old.log.place.1 < length self.old.area }
         requires with_begin { self.old.has_begin ≡ true }
         ensures value { MatchResult result
-            (λ found. MatchOption found (self.new ≡ self.old) (λ v. IsFurther (batch_of v.items) self.old self.new × (self.new.area ≡ self.old.area)))
+            (λ found. MatchOption found (self.new ≡ record self.old { area = [] }) (λ v. IsFurther (batch_of v.items) self.old self.new × (self.new.area ≡ self.old.area)))
             (λ _. self.new ≡ self.old) }
         ensures cause { IfErr result (λ e. (e ≡ LogFault.OutOfMemory) ⊎ (e ≡ LogFault.Damaged (area_of self.old.log.log self.old.log.place.0) self.old.log.place.1)) }
         ensures found { IfOk result (λ found. MatchOption found
@@ -258,6 +259,7 @@ impl Opening {
     {
         let at = self.byte as usize;
         if self.area[at] != 1 {
+            self.area = Vec::new(self.alloc);
             return Ok(None);
         }
         let Some(records) = batch_in(self.alloc, &self.area, at)? else {

@@ -1,5 +1,5 @@
 -- Both logs are taken up: what their areas hold meanwhile.
-use Rattle.std.proofs.Common.{◌≡◌, ◌≢◌, inl, inr, ⊎_elim, ℕ, ◌<◌, List, [], ◌∷◌, Bool, true, false, if◌then◌else◌, Option, None, Some, refl, sym, ◌∙◌, ap, subst, arith}
+use Rattle.std.proofs.Common.{◌≡◌, length, ◌≢◌, inl, inr, ⊎_elim, ℕ, ◌<◌, List, [], ◌∷◌, Bool, true, false, if◌then◌else◌, Option, None, Some, refl, sym, ◌∙◌, ap, subst, arith}
 use Rattle.gl_outside.specs.Disk.{Image, DiskState, After, IsDurable, LeavesOnly}
 use Rattle.gl_outside.proofs.Moments.{at_end, then as joined, weaker}
 use Rattle.gl_gatelog.specs.declared.kind.Log.{Log}
@@ -103,9 +103,11 @@ module _ (other : Log) (w : OpeningView) (differs : w.log.log ≢ other) where
       at_hand = λ gated.
           let hand = so_far.at_hand gated in
           record {
-            same = hand.same ∙ sym (read_k w.log.place.0);
-            durable = durable_still w.log.place.0 w.area hand.durable;
-            more = hand.more;
+            durable = durable_still w.log.place.0 (d1.reads (area_of w.log.log w.log.place.0))
+                (subst (λ (l : List ℕ). IsDurable (area_of w.log.log w.log.place.0) l d0) (sym (read_k w.log.place.0)) hand.durable);
+            more = subst (λ (l : List ℕ). 1 < length l) (sym (read_k w.log.place.0)) hand.more;
+            gate = subst (λ (l : List ℕ). w.log.place.1 < length l) (sym (read_k w.log.place.0)) hand.gate;
+            same = λ held. hand.same held ∙ sym (read_k w.log.place.0);
           };
     })
     read_still b (inr none) = inr (

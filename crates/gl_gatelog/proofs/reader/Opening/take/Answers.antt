@@ -23,7 +23,6 @@ invariant_of-self-2 c =
       segment = c.next_place-segment.ensures.bound;
       within = omega (arith, c.next_place-segment.ensures.within, c.self.invariant.within);
       no_gate = c.next_place-segment.ensures.no_gate;
-      gate = λ gated. omega (arith, fits, c.next_place-segment.ensures.within);
       held = c.self.invariant.held;
       least = c.self.invariant.least;
       most = c.self.invariant.most;
