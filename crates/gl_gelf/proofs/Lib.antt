@@ -6,3 +6,5 @@ pub mod Formed
 pub mod Setting
 pub mod Moments
 pub mod Beginning
+pub mod Keeping
+pub mod Messages

@@ -6,3 +6,4 @@ pub mod Members
 pub mod Decoding
 pub mod Stops
 pub mod Digits
+pub mod Growing

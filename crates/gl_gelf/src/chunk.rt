@@ -1,11 +1,12 @@
-ghost use Rattle.std.specs.Prelude.{◌≡◌};
+ghost use Rattle.std.specs.Prelude.{◌≡◌, ◌≤◌, ◌<◌, length, IfSome};
 ghost use Rattle.gl_gelf.specs.Chunks.{chunk_head};
 
 /// The id of a lawful chunk's message, the chunk's number, and how many chunks the message has: 1 to
 /// 128, numbered from 0. Bytes that aren't a lawful chunk have none.
 #[tactic(auto, unfolding(crate::specs::Chunks::chunk_head))]
 pub fn chunk_head(bytes: &[u8]) -> Option<(u64, u8, u8)>
-    ensures { result ≡ chunk_head bytes.now }
+    ensures head { result ≡ chunk_head bytes.now }
+    ensures lawful { IfSome result (λ head. (12 ≤ length bytes.now) × (head.1 < head.2)) }
 {
     if bytes.len() < 12 || bytes[0] != 0x1e || bytes[1] != 0x0f {
         return None;
