@@ -1,5 +1,5 @@
 -- Which counts of faults moved.
-use Rattle.std.specs.Prelude.{◌≡◌, ℕ, Result, Ok, Err, IsErrOf, ⊤}
+use Rattle.std.specs.Prelude.{◌≡◌, ◌≤◌, ℕ, Result, Ok, Err, IsErrOf, ⊤}
 use Rattle.std.proofs.Common.{refl, ◌∙◌, ap, sym, subst, inl, inr}
 use Rattle.gl_base.specs.Counts.{Rose, HasCause}
 use Rattle.gl_outside.specs.declared.fault.Outside.{Outside}
@@ -75,6 +75,14 @@ error_or e (Err f) = f
 
 pub same_error : {T E : Type 0} (e f : E) → IsErrOf {T = T} {E = E} (Err e) f → e ≡ f
 same_error {T} {E} e f is = ap (error_or {T = T} {E = E} e) is
+
+-- a call failed whose count stood as before until then
+pub cause_on : {T U : Type 0} (failed e : Status) (before mid now : ℕ) → mid ≡ before → HasCause {T = T} failed mid now (Err e) → HasCause {T = U} failed before now (Err e)
+cause_on {T} {U} failed e before mid now same cause = record {
+  later = subst (λ (n : ℕ). n ≤ now) same cause.later;
+  rose = λ is. subst (λ (n : ℕ). Rose n now) same (cause.rose (ap (λ (x : Status). Err x) (same_error {T = U} e failed is)));
+  steady = λ other. cause.steady (λ is. other (ap (λ (x : Status). Err x) (same_error {T = T} e failed is))) ∙ same;
+}
 
 abbrev IsMemory : Outside → Type 0
 IsMemory outside.Failed = ⊥

@@ -17,14 +17,17 @@ use Rattle.gl_node.specs.declared.mark.Claim.{Claim}
 use Rattle.gl_node.specs.declared.work.Range.{Range}
 use Rattle.gl_node.specs.declared.node.Node.{Node}
 use Rattle.gl_node.specs.declared.answer.Arrival.{Arrival}
-use Rattle.gl_node.specs.declared.answer.Arrival.TheVariants.{Journalled, Empty, FrameTooLong, UnknownInput, JournalFull}
-use Rattle.gl_node.specs.Arrivals.{added_by}
+use Rattle.gl_node.specs.declared.answer.Arrival.TheVariants.{Journalled, Empty, Held, Repeat, BadChunk, CountMismatch, ChunkTableFull, FrameTooLong, UnknownInput, JournalFull}
+use Rattle.gl_gelf.specs.declared.chunks.Chunked.{Chunked}
+use Rattle.gl_gelf.specs.declared.chunks.Chunked.TheVariants as chunk
+use Rattle.gl_gelf.specs.Chunks.{chunk_answer}
+use Rattle.gl_node.specs.Arrivals.{added_by, arrival_events, arrival_of, datagram_events, datagram_of, events_by, is_tabled, next_entry, sent_to}
 use Rattle.gl_node.specs.Configuration.{config_at}
 use Rattle.gl_node.specs.declared.answer.Claimed.{Claimed}
 use Rattle.gl_node.specs.Calls.{claimed_of}
 use Rattle.gl_node.specs.Claims.{ClaimAnswer, Granted, Nothing, Busy, claimed_by, next_ready, fits, committed_within, commits, is_kept, finished_by, finish_events}
 use Rattle.gl_node.specs.Node.{Keeps, IsRunning, AreTiled}
-use Rattle.gl_node.specs.State.{State, Event, CameIn, Committed, happened, state_after, without}
+use Rattle.gl_node.specs.State.{Datagram, State, Event, CameIn, Committed, Received, happened, state_after, without}
 use Rattle.gl_cli.specs.declared.desk.Desk.{Desk}
 use Rattle.gl_cli.specs.declared.desk.Given.{Given}
 use Rattle.gl_cli.specs.Desk.{DeskKeeps, IsPlaceOf, given_by}
@@ -71,18 +74,58 @@ held_pairs-more journal more (c ∷ held) within =
 within_journal : (s : State) (next : ℕ) → AreTiled s next → All (λ (c : Claim). c.mark.first + c.mark.count ≤ length s.journal) s.held
 within_journal s next tiled k d inside = omega (arith, held_high s next tiled k d inside, tiled.within)
 
+-- what arrives lets the journal grow, and leaves the claims
+pub record Arrives (s t : State) : Type 0 where
+  pub more : List Entry
+  pub journal_is : t.journal ≡ s.journal ++ more
+  pub held_is : t.held ≡ s.held
+
+added_arrives : (s : State) (arrival : Arrival) (entry : Entry) → Arrives s (state_after s (added_by arrival entry))
+added_arrives s (Journalled position) entry = record { more = entry ∷ []; journal_is = refl; held_is = refl }
+added_arrives s Empty entry = record { more = []; journal_is = sym (append-nil s.journal); held_is = refl }
+added_arrives s Held entry = record { more = []; journal_is = sym (append-nil s.journal); held_is = refl }
+added_arrives s Repeat entry = record { more = []; journal_is = sym (append-nil s.journal); held_is = refl }
+added_arrives s BadChunk entry = record { more = []; journal_is = sym (append-nil s.journal); held_is = refl }
+added_arrives s (CountMismatch kept told) entry = record { more = []; journal_is = sym (append-nil s.journal); held_is = refl }
+added_arrives s ChunkTableFull entry = record { more = []; journal_is = sym (append-nil s.journal); held_is = refl }
+added_arrives s FrameTooLong entry = record { more = []; journal_is = sym (append-nil s.journal); held_is = refl }
+added_arrives s UnknownInput entry = record { more = []; journal_is = sym (append-nil s.journal); held_is = refl }
+added_arrives s (JournalFull bytes limit) entry = record { more = []; journal_is = sym (append-nil s.journal); held_is = refl }
+
+pub payload_arrives : (s : State) (moment : ℕ) (input peer bytes : List ℕ) → Arrives s (state_after s (arrival_events s moment input peer bytes))
+payload_arrives s moment input peer bytes = added_arrives s (arrival_of s moment input peer bytes) (next_entry s.journal moment input peer bytes)
+
+-- by what the chunk table answered, from the state after that
+chunk_arrives : (t s : State) (answer : Chunked) (moment : ℕ) (input peer bytes : List ℕ) → Arrives t (state_after t (events_by answer s moment input peer bytes))
+chunk_arrives t s chunk.Plain moment input peer bytes = added_arrives t (arrival_of s moment input peer bytes) (next_entry s.journal moment input peer bytes)
+chunk_arrives t s (chunk.Whole payload) moment input peer bytes = added_arrives t (arrival_of s moment input peer payload) (next_entry s.journal moment input peer payload)
+chunk_arrives t s chunk.Held moment input peer bytes = record { more = []; journal_is = sym (append-nil t.journal); held_is = refl }
+chunk_arrives t s chunk.Repeat moment input peer bytes = record { more = []; journal_is = sym (append-nil t.journal); held_is = refl }
+chunk_arrives t s chunk.BadChunk moment input peer bytes = record { more = []; journal_is = sym (append-nil t.journal); held_is = refl }
+chunk_arrives t s (chunk.CountMismatch kept told) moment input peer bytes = record { more = []; journal_is = sym (append-nil t.journal); held_is = refl }
+chunk_arrives t s chunk.ChunkTableFull moment input peer bytes = record { more = []; journal_is = sym (append-nil t.journal); held_is = refl }
+chunk_arrives t s chunk.TooLong moment input peer bytes = record { more = []; journal_is = sym (append-nil t.journal); held_is = refl }
+
+pub datagram_arrives : (s : State) (moment : ℕ) (input peer bytes : List ℕ) → Arrives s (state_after s (datagram_events s moment input peer bytes))
+datagram_arrives s moment input peer bytes =
+    let d : Datagram = datagram_of moment input bytes in
+    let answer : Chunked = chunk_answer (sent_to input s.datagrams) moment bytes in
+    elim (is_tabled s input bytes)
+    as (λ b. Arrives s (state_after s (if b then Received d ∷ events_by answer s moment input peer bytes else arrival_events s moment input peer bytes))) [
+      | true ↦ let a = chunk_arrives (happened s (Received d)) s answer moment input peer bytes in record { more = a.more; journal_is = a.journal_is; held_is = a.held_is }
+      | false ↦ payload_arrives s moment input peer bytes
+    ]
+
 -- after an arrival
-pub after_arrival : (desk : Desk) (node : Node) (s : State) (arrival : Arrival) (entry : Entry) → DeskKeeps desk s → IsRunning node
-    → Keeps node (state_after s (added_by arrival entry)) → DeskKeeps (record desk { node = node }) (state_after s (added_by arrival entry))
-after_arrival desk node s (Journalled position) entry kept running keeps = record {
+pub after_arrival : (desk : Desk) (node : Node) (s t : State) → DeskKeeps desk s → IsRunning node → Keeps node t → Arrives s t
+    → DeskKeeps (record desk { node = node }) t
+after_arrival desk node s t kept running keeps came = record {
   node = keeps;
   running = running;
-  given = kept.given ∙ sym (held_pairs-more s.journal (entry ∷ []) s.held (within_journal s desk.node.next kept.node.tiled));
+  given = kept.given ∙ sym (held_pairs-more s.journal came.more s.held (within_journal s desk.node.next kept.node.tiled))
+      ∙ ap (λ (j : List Entry). held_pairs j s.held) (sym came.journal_is)
+      ∙ ap (λ (held : List Claim). held_pairs t.journal held) (sym came.held_is);
 }
-after_arrival desk node s Empty entry kept running keeps = record { node = keeps; running = running; given = kept.given }
-after_arrival desk node s FrameTooLong entry kept running keeps = record { node = keeps; running = running; given = kept.given }
-after_arrival desk node s UnknownInput entry kept running keeps = record { node = keeps; running = running; given = kept.given }
-after_arrival desk node s (JournalFull bytes limit) entry kept running keeps = record { node = keeps; running = running; given = kept.given }
 
 -- ---- a range that is brought back
 
@@ -174,10 +217,10 @@ pub record SameClaims (old new : State) : Type 0 where
   pub journal_is : new.journal ≡ old.journal
   pub held_is : new.held ≡ old.held
 
-abbrev by_fit : ℕ → State → Mark → Bool → List Event
+abbrev pub by_fit : ℕ → State → Mark → Bool → List Event
 by_fit n s mark b = elim b as (λ _. List Event) [ false ↦ [] | true ↦ Committed mark ∷ committed_within n (happened s (Committed mark)) ]
 
-abbrev by_ready : ℕ → State → Option Mark → List Event
+abbrev pub by_ready : ℕ → State → Option Mark → List Event
 by_ready n s o = elim o as (λ _. List Event) [ None ↦ [] | Some mark ↦ by_fit n s mark (fits s mark) ]
 
 commits_same : (n : ℕ) (s : State) → SameClaims s (state_after s (committed_within n s))

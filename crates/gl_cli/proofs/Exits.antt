@@ -13,8 +13,9 @@ use Rattle.gl_cli.specs.declared.status.Status.{Status}
 use Rattle.gl_cli.specs.declared.status.Status.TheVariants.{Done, Usage, SourceFault, SinkFault, DiskFault, BadScript, Damaged, OutOfMemory, PatternFault, ScriptTooLong}
 use Rattle.gl_cli.specs.declared.reader.Next.{Next}
 use Rattle.gl_cli.specs.declared.reader.Next.TheVariants.{Line as Text, End, TooLong}
+use Rattle.gl_cli.specs.Connections.{Connection}
 use Rattle.gl_cli.specs.Script.{lines_within, lines_run, bad_line, script_lines, script_limit, moment_after, moment_in, line_of, read_then, number_behind}
-use Rattle.gl_cli.specs.Runs.{Turn, turns_of, turn_of, script_turns, all_events, all_text, turn_events, turn_text, answers, output, done_text, last_state}
+use Rattle.gl_cli.specs.Runs.{Turn, connections_after, turns_of, turn_of, script_turns, all_events, all_text, turn_events, turn_text, answers, output, done_text, last_state}
 use Rattle.gl_cli.specs.Reading.{GivesKnown}
 use Rattle.gl_cli.specs.Writing.{BeginsWith, AppendsSome}
 use Rattle.gl_cli.specs.Sessions.{Running, ReadTo, Answered, CutShort, SomeAfter}
@@ -67,11 +68,11 @@ Wrote-other base marks script PatternFault written f w = w
 Wrote-other base marks script ScriptTooLong written f w = absurd f
 
 -- where no line is run any more, the turns so far are all
-pub turns_all : (base : Base) (script : List ℕ) (before now : Option (List ℕ)) (s : State) (ahead : Option (List ℕ)) (budget number moment : ℕ)
-    (r : Running base script before now s ahead budget number moment) → lines_run (lines_within budget r.text) ≡ []
+pub turns_all : (base : Base) (script : List ℕ) (before now : Option (List ℕ)) (s : State) (cs : List Connection) (ahead : Option (List ℕ)) (budget number moment : ℕ)
+    (r : Running base script before now s cs ahead budget number moment) → lines_run (lines_within budget r.text) ≡ []
     → script_turns base [] script ≡ r.turns
-turns_all base script before now s ahead budget number moment r none =
-    r.all ∙ ap (λ ls. r.turns ++ turns_of r.past s [] ls) none ∙ append-nil r.turns
+turns_all base script before now s cs ahead budget number moment r none =
+    r.all ∙ ap (λ ls. r.turns ++ turns_of r.past cs s [] ls) none ∙ append-nil r.turns
 
 pub output-turns : (base : Base) (script : List ℕ) (turns rest : List Turn) → script_turns base [] script ≡ turns ++ rest
     → output base [] script ≡ (all_text turns ++ all_text rest) ++ done_text (last_state base (script_turns base [] script))
@@ -98,8 +99,8 @@ begins_within base script turns turn rest front e b =
           ∙ grind (arith, common_steps),
     )
 
-module _ (base : Base) (script : List ℕ) (before now : Option (List ℕ)) (s : State) (ahead : Option (List ℕ)) (budget number moment : ℕ)
-    (r : Running base script before now s ahead budget number moment) where
+module _ (base : Base) (script : List ℕ) (before now : Option (List ℕ)) (s : State) (cs : List Connection) (ahead : Option (List ℕ)) (budget number moment : ℕ)
+    (r : Running base script before now s cs ahead budget number moment) where
   -- an end between two lines
   pub end_other : (status : Status) → IsOther status → SessionEnd base script status before now
   end_other status other = record {
@@ -118,7 +119,7 @@ module _ (base : Base) (script : List ℕ) (before now : Option (List ℕ)) (s :
     none_refused = refl;
     written = all_text r.turns;
     gained = r.gained;
-    wrote = wrote (all_text r.turns) (ap all_text (sym (turns_all base script before now s ahead budget number moment r none)));
+    wrote = wrote (all_text r.turns) (ap all_text (sym (turns_all base script before now s cs ahead budget number moment r none)));
   }
 
 -- an end within the answer of a line
@@ -159,13 +160,13 @@ option_zero (Some k) = let e : k ≡ 0 + k = omega arith in ap (λ (n : ℕ). So
 -- the first reading
 pub running_first : (base : Base) (script : List ℕ) (sink : Option (List ℕ)) (s : State) (budget : ℕ) (pending : List ℕ) (left : Option (List ℕ))
     → s ≡ opened base → budget ≡ script_limit → pending ≡ [] → left ≡ Some script
-    → Running base script sink sink s (prepend_known pending left) budget 0 0
+    → Running base script sink sink s [] (prepend_known pending left) budget 0 0
 running_first base script sink s budget pending left e b p l = record {
   turns = [];
   past = [];
   text = script;
   ahead_is = ap (λ o. prepend_known pending o) l ∙ ap (λ (p' : List ℕ). Some (p' ++ script)) p;
-  all = ap (λ q. turns_of [] q [] (lines_run (script_lines script))) (sym e) ∙ ap (λ n. turns_of [] s [] (lines_run (lines_within n script))) (sym b);
+  all = ap (λ q. turns_of [] [] q [] (lines_run (script_lines script))) (sym e) ∙ ap (λ n. turns_of [] [] s [] (lines_run (lines_within n script))) (sym b);
   state_is = e;
   moment_is = refl;
   bad = ap (λ n. bad_line (lines_within n script)) (sym b) ∙ option_zero (bad_line (lines_within budget script));
@@ -177,19 +178,19 @@ pub status_with : (script : List ℕ) (bad : Option ℕ) (long : Bool) → bad_l
     → script_status script ≡ status_by bad long
 status_with script bad long e f = ap (λ o. status_by o (nat_lt script_limit (length script))) e ∙ ap (status_by bad) f
 
-module _ (base : Base) (script : List ℕ) (before now : Option (List ℕ)) (s : State) (budget number moment : ℕ) where
-  pub bad_within : {ahead : Option (List ℕ)} (r : Running base script before now s ahead budget number moment) (lines : List (List ℕ))
+module _ (base : Base) (script : List ℕ) (before now : Option (List ℕ)) (s : State) (cs : List Connection) (budget number moment : ℕ) where
+  pub bad_within : {ahead : Option (List ℕ)} (r : Running base script before now s cs ahead budget number moment) (lines : List (List ℕ))
       → lines_within budget r.text ≡ lines → bad_line (script_lines script) ≡ option_map (λ k. number + k) (bad_line lines)
   bad_within r lines e = r.bad ∙ ap (λ ls. option_map (λ k. number + k) (bad_line ls)) e
 
-  pub Gives-end : (ahead rest : Option (List ℕ)) (left : ℕ) (r : Running base script before now s ahead budget number moment)
+  pub Gives-end : (ahead rest : Option (List ℕ)) (left : ℕ) (r : Running base script before now s cs ahead budget number moment)
       → GivesKnown End (Some r.text) budget rest left
       → (lines_run (lines_within budget r.text) ≡ []) × (script_status script ≡ Done)
   Gives-end ahead None left r g = absurd g
   Gives-end ahead (Some rest) left r g =
       (ap lines_run g.0, status_with script None false (bad_within r [] g.0) (lt-leb (suc script_limit) (length script) (omega (arith, r.long.1 g.1))))
 
-  pub Gives-long : (ahead rest : Option (List ℕ)) (left : ℕ) (r : Running base script before now s ahead budget number moment)
+  pub Gives-long : (ahead rest : Option (List ℕ)) (left : ℕ) (r : Running base script before now s cs ahead budget number moment)
       → GivesKnown TooLong (Some r.text) budget rest left
       → (lines_run (lines_within budget r.text) ≡ []) × (script_status script ≡ ScriptTooLong)
   Gives-long ahead None left r g = absurd g
@@ -201,7 +202,7 @@ module _ (base : Base) (script : List ℕ) (before now : Option (List ℕ)) (s :
     ],
   )
 
-  pub Gives-bad : (ahead rest : Option (List ℕ)) (left : ℕ) (text : List ℕ) (r : Running base script before now s ahead budget number moment)
+  pub Gives-bad : (ahead rest : Option (List ℕ)) (left : ℕ) (text : List ℕ) (r : Running base script before now s cs ahead budget number moment)
       → GivesKnown (Text text) (Some r.text) budget rest left → line_of text ≡ None
       → (lines_run (lines_within budget r.text) ≡ []) × (script_status script ≡ BadScript (number + 1))
   Gives-bad ahead None left text r g e = absurd g
@@ -222,128 +223,131 @@ pub IfSome-with : {X : Type 0} (o : Option X) {P Q : X → Type 0} → ((x : X) 
 IfSome-with None f p = tt
 IfSome-with (Some x) f p = f x p
 
-abbrev pub Goes : Option (List ℕ) → Base → Option (List ℕ) → Option (List ℕ) → (State → Type 0) → Option (List ℕ) → ℕ → ℕ → ℕ → Type 0
+abbrev pub Goes : Option (List ℕ) → Base → Option (List ℕ) → Option (List ℕ) → (State → List Connection → Type 0) → Option (List ℕ) → ℕ → ℕ → ℕ → Type 0
 Goes source base before now stands ahead budget number moment =
-    IfSome source (λ script. SomeAfter stands (λ s. Running base script before now s ahead budget number moment))
+    IfSome source (λ script. SomeAfter stands (λ s cs. Running base script before now s cs ahead budget number moment))
 
 abbrev pub Ended : Option (List ℕ) → Base → Status → Option (List ℕ) → Option (List ℕ) → Type 0
 Ended source base status before now = IfSome source (λ script. SessionEnd base script status before now)
 
-pub known_with : {ahead : Option (List ℕ)} {base : Base} {script : List ℕ} {before now : Option (List ℕ)} {s : State} {budget number moment : ℕ}
-    (next : Next) (rest : Option (List ℕ)) (left : ℕ) (r : Running base script before now s ahead budget number moment)
+pub known_with : {ahead : Option (List ℕ)} {base : Base} {script : List ℕ} {before now : Option (List ℕ)} {s : State} {cs : List Connection} {budget number moment : ℕ}
+    (next : Next) (rest : Option (List ℕ)) (left : ℕ) (r : Running base script before now s cs ahead budget number moment)
     → GivesKnown next ahead budget rest left → GivesKnown next (Some r.text) budget rest left
 known_with {ahead} {budget = budget} next rest left r g = subst (λ (o : Option (List ℕ)). GivesKnown next o budget rest left) r.ahead_is g
 
-module _ (source : Option (List ℕ)) (base : Base) (before mid : Option (List ℕ)) (stands : State → Type 0) (ahead : Option (List ℕ)) (budget number moment : ℕ)
+module _ (source : Option (List ℕ)) (base : Base) (before mid : Option (List ℕ)) (stands : State → List Connection → Type 0) (ahead : Option (List ℕ)) (budget number moment : ℕ)
     (running : Goes source base before mid stands ahead budget number moment) where
   pub ended_other : (status : Status) → IsOther status → Ended source base status before mid
-  ended_other status other = IfSome-with source (λ script p. end_other base script before mid p.0 ahead budget number moment p.2 status other) running
+  ended_other status other = IfSome-with source (λ script p. end_other base script before mid p.0 p.1 ahead budget number moment p.3 status other) running
 
   pub ended_long : (rest : Option (List ℕ)) (left : ℕ) → GivesKnown TooLong ahead budget rest left → Ended source base ScriptTooLong before mid
   ended_long rest left g = IfSome-with source (λ script p.
-      let r : Running base script before mid p.0 ahead budget number moment = p.2 in
+      let r : Running base script before mid p.0 p.1 ahead budget number moment = p.3 in
       let q : (lines_run (lines_within budget r.text) ≡ []) × (script_status script ≡ ScriptTooLong)
-      = Gives-long base script before mid p.0 budget number moment ahead rest left r (known_with TooLong rest left r g) in
-      end_run base script before mid p.0 ahead budget number moment r ScriptTooLong q.0 (λ written e. e)) running
+      = Gives-long base script before mid p.0 p.1 budget number moment ahead rest left r (known_with TooLong rest left r g) in
+      end_run base script before mid p.0 p.1 ahead budget number moment r ScriptTooLong q.0 (λ written e. e)) running
 
   pub ended_bad : (rest : Option (List ℕ)) (left : ℕ) (text : List ℕ) → GivesKnown (Text text) ahead budget rest left → line_of text ≡ None → (line : ℕ)
       → Ended source base (BadScript line) before mid
   ended_bad rest left text g e line = IfSome-with source (λ script p.
-      let r : Running base script before mid p.0 ahead budget number moment = p.2 in
+      let r : Running base script before mid p.0 p.1 ahead budget number moment = p.3 in
       let q : (lines_run (lines_within budget r.text) ≡ []) × (script_status script ≡ BadScript (number + 1))
-      = Gives-bad base script before mid p.0 budget number moment ahead rest left text r (known_with (Text text) rest left r g) e in
-      end_run base script before mid p.0 ahead budget number moment r (BadScript line) q.0 (λ written f. f)) running
+      = Gives-bad base script before mid p.0 p.1 budget number moment ahead rest left text r (known_with (Text text) rest left r g) e in
+      end_run base script before mid p.0 p.1 ahead budget number moment r (BadScript line) q.0 (λ written f. f)) running
 
   pub ended_cut : (now : Option (List ℕ)) (rest : Option (List ℕ)) (left : ℕ) (text : List ℕ) (line : Line)
       → GivesKnown (Text text) ahead budget rest left → line_of text ≡ Some line
-      → ((s : State) (past : List Line) → stands s → moment ≡ moment_after past → CutShort (turn_of past s false line) mid now)
+      → ((s : State) (cs : List Connection) (past : List Line) → stands s cs → moment ≡ moment_after past → CutShort (turn_of (moment_after past) cs false line s) mid now)
       → (status : Status) → IsOther status → Ended source base status before now
   ended_cut now rest left text line g e cut status other = IfSome-with source (λ script p.
       let s : State = p.0 in
-      let r : Running base script before mid s ahead budget number moment = p.2 in
+      let cs : List Connection = p.1 in
+      let r : Running base script before mid s cs ahead budget number moment = p.3 in
       let q : (tail : List (List ℕ)) × (lines_within budget r.text ≡ text ∷ tail) = first_line_known budget left text r.text rest (known_with (Text text) rest left r g) in
-      end_cut base script before mid now r.turns (turn_of r.past s false line)
-      (turns_of (r.past ++ line ∷ []) (state_after s (turn_events (turn_of r.past s false line))) [] (lines_run q.0))
-      (r.all ∙ ap (λ ts. r.turns ++ ts) (turns_of-line r.past s (lines_within budget r.text) text q.0 line q.1 e))
-      r.gained status other (cut s r.past p.1 r.moment_is)) running
+      end_cut base script before mid now r.turns (turn_of (moment_after r.past) cs false line s)
+      (turns_of (r.past ++ line ∷ []) (connections_after s cs line) (state_after s (turn_events (turn_of (moment_after r.past) cs false line s))) [] (lines_run q.0))
+      (r.all ∙ ap (λ ts. r.turns ++ ts) (turns_of-line r.past cs s (lines_within budget r.text) text q.0 line q.1 e))
+      r.gained status other (cut s cs r.past p.2 r.moment_is)) running
 
   pub ended_done : (now : Option (List ℕ)) (rest : Option (List ℕ)) (left : ℕ) → GivesKnown End ahead budget rest left
-      → ((s : State) → stands s → Appends mid now (done_text s)) → Ended source base Done before now
+      → ((s : State) (cs : List Connection) → stands s cs → Appends mid now (done_text s)) → Ended source base Done before now
   ended_done now rest left g gained = IfSome-with source (λ script p.
-      let r : Running base script before mid p.0 ahead budget number moment = p.2 in
+      let r : Running base script before mid p.0 p.1 ahead budget number moment = p.3 in
       let q : (lines_run (lines_within budget r.text) ≡ []) × (script_status script ≡ Done)
-      = Gives-end base script before mid p.0 budget number moment ahead rest left r (known_with End rest left r g) in
-      end_done base script before mid now r.turns Done (done_text p.0) r.gained (gained p.0 p.1)
-      (output-done base script r.turns p.0 (done_text p.0) (turns_all base script before mid p.0 ahead budget number moment r q.0) r.state_is refl)) running
+      = Gives-end base script before mid p.0 p.1 budget number moment ahead rest left r (known_with End rest left r g) in
+      end_done base script before mid now r.turns Done (done_text p.0) r.gained (gained p.0 p.1 p.2)
+      (output-done base script r.turns p.0 (done_text p.0) (turns_all base script before mid p.0 p.1 ahead budget number moment r q.0) r.state_is refl)) running
 
   pub ended_done_cut : (now : Option (List ℕ)) (rest : Option (List ℕ)) (left : ℕ) → GivesKnown End ahead budget rest left
-      → ((s : State) → stands s → AppendsSome mid now (done_text s)) → (status : Status) → IsOther status → Ended source base status before now
+      → ((s : State) (cs : List Connection) → stands s cs → AppendsSome mid now (done_text s)) → (status : Status) → IsOther status → Ended source base status before now
   ended_done_cut now rest left g some status other = IfSome-with source (λ script p.
-      let r : Running base script before mid p.0 ahead budget number moment = p.2 in
+      let r : Running base script before mid p.0 p.1 ahead budget number moment = p.3 in
       let q : (lines_run (lines_within budget r.text) ≡ []) × (script_status script ≡ Done)
-      = Gives-end base script before mid p.0 budget number moment ahead rest left r (known_with End rest left r g) in
-      let w : AppendsSome mid now (done_text p.0) = some p.0 p.1 in
+      = Gives-end base script before mid p.0 p.1 budget number moment ahead rest left r (known_with End rest left r g) in
+      let w : AppendsSome mid now (done_text p.0) = some p.0 p.1 p.2 in
       end_done base script before mid now r.turns status w.0 r.gained w.2
       (Wrote-other base [] script status (all_text r.turns ++ w.0) other (
         w.1.0,
-        sym (output-done base script r.turns p.0 (done_text p.0) (turns_all base script before mid p.0 ahead budget number moment r q.0) r.state_is refl)
+        sym (output-done base script r.turns p.0 (done_text p.0) (turns_all base script before mid p.0 p.1 ahead budget number moment r q.0) r.state_is refl)
             ∙ ap (λ t. all_text r.turns ++ t) w.1.1 ∙ sym (append_assoc (all_text r.turns) w.0 w.1.0),
       ))) running
 
   -- what the node keeps where the run ends is the last state
   pub shown_long : (rest : Option (List ℕ)) (left : ℕ) → GivesKnown TooLong ahead budget rest left → (disk : DiskState)
-      → ((s : State) → stands s → (image : Image) → disk.may_leave image → StandsFor image s)
+      → ((s : State) (cs : List Connection) → stands s cs → (image : Image) → disk.may_leave image → StandsFor image s)
       → IfSome source (λ script. (image : Image) → disk.may_leave image → StandsFor image (last_state base (script_turns base [] script)))
   shown_long rest left g disk shows = IfSome-with source (λ script p.
-      let r : Running base script before mid p.0 ahead budget number moment = p.2 in
+      let r : Running base script before mid p.0 p.1 ahead budget number moment = p.3 in
       let q : (lines_run (lines_within budget r.text) ≡ []) × (script_status script ≡ ScriptTooLong)
-      = Gives-long base script before mid p.0 budget number moment ahead rest left r (known_with TooLong rest left r g) in
+      = Gives-long base script before mid p.0 p.1 budget number moment ahead rest left r (known_with TooLong rest left r g) in
       subst (λ (s : State). (image : Image) → disk.may_leave image → StandsFor image s)
-      (r.state_is ∙ ap (λ (ts : List Turn). state_after (opened base) (all_events ts)) (sym (turns_all base script before mid p.0 ahead budget number moment r q.0)))
-      (shows p.0 p.1)) running
+      (r.state_is ∙ ap (λ (ts : List Turn). state_after (opened base) (all_events ts)) (sym (turns_all base script before mid p.0 p.1 ahead budget number moment r q.0)))
+      (shows p.0 p.1 p.2)) running
 
   pub shown_bad : (rest : Option (List ℕ)) (left : ℕ) (text : List ℕ) → GivesKnown (Text text) ahead budget rest left → line_of text ≡ None → (disk : DiskState)
-      → ((s : State) → stands s → (image : Image) → disk.may_leave image → StandsFor image s)
+      → ((s : State) (cs : List Connection) → stands s cs → (image : Image) → disk.may_leave image → StandsFor image s)
       → IfSome source (λ script. (image : Image) → disk.may_leave image → StandsFor image (last_state base (script_turns base [] script)))
   shown_bad rest left text g e disk shows = IfSome-with source (λ script p.
-      let r : Running base script before mid p.0 ahead budget number moment = p.2 in
+      let r : Running base script before mid p.0 p.1 ahead budget number moment = p.3 in
       let q : (lines_run (lines_within budget r.text) ≡ []) × (script_status script ≡ BadScript (number + 1))
-      = Gives-bad base script before mid p.0 budget number moment ahead rest left text r (known_with (Text text) rest left r g) e in
+      = Gives-bad base script before mid p.0 p.1 budget number moment ahead rest left text r (known_with (Text text) rest left r g) e in
       subst (λ (s : State). (image : Image) → disk.may_leave image → StandsFor image s)
-      (r.state_is ∙ ap (λ (ts : List Turn). state_after (opened base) (all_events ts)) (sym (turns_all base script before mid p.0 ahead budget number moment r q.0)))
-      (shows p.0 p.1)) running
+      (r.state_is ∙ ap (λ (ts : List Turn). state_after (opened base) (all_events ts)) (sym (turns_all base script before mid p.0 p.1 ahead budget number moment r q.0)))
+      (shows p.0 p.1 p.2)) running
 
   pub ended_shows : (rest : Option (List ℕ)) (left : ℕ) → GivesKnown End ahead budget rest left → (disk : DiskState)
-      → ((s : State) → stands s → (image : Image) → disk.may_leave image → StandsFor image s)
+      → ((s : State) (cs : List Connection) → stands s cs → (image : Image) → disk.may_leave image → StandsFor image s)
       → IfSome source (λ script. (image : Image) → disk.may_leave image → StandsFor image (last_state base (script_turns base [] script)))
   ended_shows rest left g disk shows = IfSome-with source (λ script p.
-      let r : Running base script before mid p.0 ahead budget number moment = p.2 in
+      let r : Running base script before mid p.0 p.1 ahead budget number moment = p.3 in
       let q : (lines_run (lines_within budget r.text) ≡ []) × (script_status script ≡ Done)
-      = Gives-end base script before mid p.0 budget number moment ahead rest left r (known_with End rest left r g) in
+      = Gives-end base script before mid p.0 p.1 budget number moment ahead rest left r (known_with End rest left r g) in
       subst (λ (s : State). (image : Image) → disk.may_leave image → StandsFor image s)
-      (r.state_is ∙ ap (λ (ts : List Turn). state_after (opened base) (all_events ts)) (sym (turns_all base script before mid p.0 ahead budget number moment r q.0)))
-      (shows p.0 p.1)) running
+      (r.state_is ∙ ap (λ (ts : List Turn). state_after (opened base) (all_events ts)) (sym (turns_all base script before mid p.0 p.1 ahead budget number moment r q.0)))
+      (shows p.0 p.1 p.2)) running
 
-  pub running_next : (stands' : State → Type 0) (now rest : Option (List ℕ)) (left later : ℕ) (text : List ℕ) (line : Line)
+  pub running_next : (stands' : State → List Connection → Type 0) (now rest : Option (List ℕ)) (left later : ℕ) (text : List ℕ) (line : Line)
       → GivesKnown (Text text) ahead budget rest left → line_of text ≡ Some line
-      → ((s : State) (past : List Line) → stands s → moment ≡ moment_after past
-      → stands' (state_after s (turn_events (turn_of past s false line))) × Answered (turn_of past s false line) mid now)
+      → ((s : State) (cs : List Connection) (past : List Line) → stands s cs → moment ≡ moment_after past
+      → stands' (state_after s (turn_events (turn_of (moment_after past) cs false line s))) (connections_after s cs line) × Answered (turn_of (moment_after past) cs false line s) mid now)
       → later ≡ max moment (moment_in line)
       → Goes source base before now stands' rest left (number + 1) later
   running_next stands' now rest left later text line g e answered m = IfSome-with source (λ script p.
       let s : State = p.0 in
-      let r : Running base script before mid s ahead budget number moment = p.2 in
-      let c : stands' (state_after s (turn_events (turn_of r.past s false line))) × Answered (turn_of r.past s false line) mid now = answered s r.past p.1 r.moment_is in (
-        state_after s (turn_events (turn_of r.past s false line)),
+      let cs : List Connection = p.1 in
+      let r : Running base script before mid s cs ahead budget number moment = p.3 in
+      let c : stands' (state_after s (turn_events (turn_of (moment_after r.past) cs false line s))) (connections_after s cs line) × Answered (turn_of (moment_after r.past) cs false line s) mid now = answered s cs r.past p.2 r.moment_is in (
+        state_after s (turn_events (turn_of (moment_after r.past) cs false line s)),
+        connections_after s cs line,
         c.0,
-        running_more base script before mid now s rest budget left number moment later text line r (known_with (Text text) rest left r g) e c.1 m,
+        running_more base script before mid now s cs rest budget left number moment later text line r (known_with (Text text) rest left r g) e c.1 m,
       )) running
 
-pub running_init : (source : Option (List ℕ)) (base : Base) (sink : Option (List ℕ)) (stands : State → Type 0) (budget : ℕ) (pending : List ℕ)
-    → stands (opened base) → budget ≡ script_limit → pending ≡ [] → Goes source base sink sink stands (prepend_known pending source) budget 0 0
+pub running_init : (source : Option (List ℕ)) (base : Base) (sink : Option (List ℕ)) (stands : State → List Connection → Type 0) (budget : ℕ) (pending : List ℕ)
+    → stands (opened base) [] → budget ≡ script_limit → pending ≡ [] → Goes source base sink sink stands (prepend_known pending source) budget 0 0
 running_init None base sink stands budget pending e b p = tt
 running_init (Some script) base sink stands budget pending e b p =
-    (opened base, e, running_first base script sink (opened base) budget pending (Some script) refl b p refl)
+    (opened base, [], e, running_first base script sink (opened base) budget pending (Some script) refl b p refl)
 
 -- ---- the status alone, whatever the node does
 

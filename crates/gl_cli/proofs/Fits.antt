@@ -9,8 +9,8 @@ use Rattle.std.proofs.lemmas.Bool.{false≢true}
 use Rattle.std.proofs.lemmas.Bool.Decides.{nat_tests}
 use Rattle.percent_encoding.specs.Percent.{percent_decode}
 use Rattle.gl_cli.specs.declared.line.Line.{Line}
-use Rattle.gl_cli.specs.declared.line.Line.TheVariants.{Blank, At, Udp, Claim, Finish, Listing}
-use Rattle.gl_cli.specs.Script.{is_number, digits_value, number_in, is_name, last_moment, workers, words_of, at_line, udp_line, claim_line, finish_line, list_line, line_of_words, is_blank, line_of, moment_in}
+use Rattle.gl_cli.specs.declared.line.Line.TheVariants.{Blank, At, Udp, Tcp, End, Claim, Finish, Listing}
+use Rattle.gl_cli.specs.Script.{is_number, digits_value, number_in, is_name, last_moment, workers, words_of, at_line, udp_line, connection_in, tcp_line, end_line, claim_line, finish_line, list_line, line_of_words, is_blank, line_of, moment_in}
 use Rattle.gl_cli.specs.Sessions.{IsFit}
 
 abbrev IfFit : Option Line → Type 0
@@ -57,6 +57,33 @@ udp_fits (input ∷ []) = tt
 udp_fits (input ∷ peer ∷ []) = tt
 udp_fits (input ∷ peer ∷ word ∷ words) = if_peer (is_name 64 input) (is_name 255 peer) (Udp input peer (percent_decode (join_with_byte 32 (word ∷ words)))) (λ e. name_fits 255 peer e)
 
+if_peer_some : (a b : Bool) (o : Option Line) → (b ≡ true → IfFit o) → IfFit (if a && b then o else None)
+if_peer_some true true o p = p refl
+if_peer_some true false o p = tt
+if_peer_some false b o p = tt
+
+-- where any number will do
+any_fits : (o : Option ℕ) (f : ℕ → Line) → ((n : ℕ) → IsFit (f n)) → IfFit (option_map f o)
+any_fits None f k = tt
+any_fits (Some n) f k = k n
+
+tcp_fits : (rest : List (List ℕ)) → IfFit (tcp_line rest)
+tcp_fits [] = tt
+tcp_fits (input ∷ []) = tt
+tcp_fits (input ∷ number ∷ []) = tt
+tcp_fits (input ∷ number ∷ peer ∷ []) = tt
+tcp_fits (input ∷ number ∷ peer ∷ word ∷ words) =
+    let line : ℕ → Line = λ n. Tcp input n peer (percent_decode (join_with_byte 32 (word ∷ words))) in
+    if_peer_some (is_name 64 input) (is_name 255 peer) (option_map line (connection_in number))
+    (λ e. any_fits (connection_in number) line (λ n. name_fits 255 peer e))
+
+end_fits : (rest : List (List ℕ)) → IfFit (end_line rest)
+end_fits [] = tt
+end_fits (input ∷ []) = tt
+end_fits (input ∷ number ∷ []) =
+    if_fits (is_name 64 input) (option_map (λ n. End input n) (connection_in number)) None (any_fits (connection_in number) (λ n. End input n) (λ n. tt)) tt
+end_fits (input ∷ number ∷ next ∷ rest) = tt
+
 and_then_fits : (o : Option ℕ) (f : ℕ → Option Line) (P : ℕ → Type 0) → IfSome o P → ((n : ℕ) → P n → IfFit (f n)) → IfFit (option_and_then f o)
 and_then_fits None f P p k = tt
 and_then_fits (Some n) f P p k = k n p
@@ -83,9 +110,11 @@ words_fit [] = tt
 words_fit (word ∷ rest) =
     if_fits (bytes_eq word (codes "at")) _ _ (at_fits rest)
     (if_fits (bytes_eq word (codes "udp")) _ _ (udp_fits rest)
+    (if_fits (bytes_eq word (codes "tcp")) _ _ (tcp_fits rest)
+    (if_fits (bytes_eq word (codes "end")) _ _ (end_fits rest)
     (if_fits (bytes_eq word (codes "claim")) _ _ (claim_fits rest)
     (if_fits (bytes_eq word (codes "finish")) _ _ (finish_fits rest)
-    (if_fits (bytes_eq word (codes "list")) _ _ (list_fits rest) tt))))
+    (if_fits (bytes_eq word (codes "list")) _ _ (list_fits rest) tt))))))
 
 pub line_fits : (text : List ℕ) (line : Line) → line_of text ≡ Some line → IsFit line
 line_fits text line is = subst IfFit is (if_fits (is_blank text) (Some Blank) (line_of_words (words_of text)) tt (words_fit (words_of text)))
@@ -94,6 +123,8 @@ pub moment_fits : (moment later : ℕ) (line : Line) → moment ≤ 253402300799
 moment_fits moment later Blank p fit is = omega (arith, p, is)
 moment_fits moment later (At next) p fit is = omega (arith, p, fit, is)
 moment_fits moment later (Udp input peer payload) p fit is = omega (arith, p, is)
+moment_fits moment later (Tcp input number peer payload) p fit is = omega (arith, p, is)
+moment_fits moment later (End input number) p fit is = omega (arith, p, is)
 moment_fits moment later (Claim worker limit) p fit is = omega (arith, p, is)
 moment_fits moment later (Finish worker) p fit is = omega (arith, p, is)
 moment_fits moment later Listing p fit is = omega (arith, p, is)

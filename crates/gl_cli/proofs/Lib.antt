@@ -15,4 +15,10 @@ pub mod Starts
 pub mod Rows
 pub mod Big
 pub mod Moments
+pub mod Readers
+pub mod Conversations
 mod Arrivals
+pub mod Steps
+pub mod Feeding
+pub mod Places
+pub mod Pieces

@@ -11,6 +11,8 @@ use Rattle.gl_node.specs.State.{Base, opened}
 use Rattle.gl_node.specs.declared.node.Options.{Options}
 use Rattle.gl_cli.specs.declared.line.Line.{Line}
 use Rattle.gl_cli.specs.declared.line.Line.TheVariants.{Udp, Claim, Finish}
+use Rattle.gl_gelf.specs.Frames.{frames_of, is_too_long, parts_of}
+use Rattle.gl_syslog.specs.LineFraming.{behind_count, count, has_count}
 use Rattle.gl_cli.specs.Words.{default_options}
 use Rattle.gl_cli.specs.Runs.{turns_of, all_text, output, answers}
 use Rattle.gl_cli.specs.Script.{bad_line, script_lines}
@@ -51,7 +53,7 @@ one_datagram = refl
 abbrev pub datagram : Line
 datagram = Udp (codes "raw") (codes "p") (codes "x")
 
-pub three_workers : all_text (turns_of [] (opened empty) []
+pub three_workers : all_text (turns_of [] [] (opened empty) []
     (datagram ∷ datagram ∷ datagram ∷ datagram ∷ datagram ∷ datagram ∷ Claim 1 2 ∷ Claim 2 2 ∷ Claim 2 2 ∷ Claim 3 2 ∷ Finish 3 ∷ Finish 3 ∷ Finish 2 ∷ Finish 1 ∷ Claim 2 9 ∷ []))
     ≡ lines_text (codes "journalled 0" ∷ codes "journalled 1" ∷ codes "journalled 2" ∷ codes "journalled 3" ∷ codes "journalled 4" ∷ codes "journalled 5"
     ∷ codes "claimed 1 0 2" ∷ codes "claimed 2 2 4" ∷ codes "busy 2 4" ∷ codes "claimed 3 4 6" ∷ codes "kept 0" ∷ codes "no-claim" ∷ codes "kept 0" ∷ codes "committed 6" ∷ codes "nothing" ∷ [])
@@ -78,3 +80,19 @@ bad_zero = refl
 pub last_unended : answers empty [] (codes "list") ≡ lines_text (codes "journal 0 committed 0" ∷ [])
 unfolding digits
 last_unended = refl
+
+-- a connection whose second frame comes in two pieces, of which the later names another peer, and whose last line has no end
+pub one_connection :
+    answers empty [] (lines_text (codes "tcp raw 7 p a%0Ab" ∷ codes "tcp raw 7 q c%0Ad" ∷ codes "tcp nope 7 p x%0A" ∷ codes "tcp raw 8 p e" ∷ codes "end raw 7" ∷ codes "end raw 7" ∷ codes "claim 0 9" ∷ codes "finish 0" ∷ codes "list" ∷ []))
+    ≡ lines_text (codes "journalled 0" ∷ codes "journalled 1" ∷ codes "unknown-input" ∷ codes "journalled 2" ∷ codes "claimed 0 0 3" ∷ codes "committed 3" ∷ codes "journal 3 committed 3"
+    ∷ codes "0 stored 000000000000000000000001 message=a&source=p&timestamp:0" ∷ codes "1 stored 000000000000000000000001 message=bc&source=q&timestamp:0"
+    ∷ codes "2 stored 000000000000000000000001 message=d&source=q&timestamp:0" ∷ [])
+unfolding digits utf8_lossy utf8_valid_len is_utf8 chars encode percent_decode percent_encode_byte
+one_connection = refl
+
+-- counted frames of a syslog connection, and parts between zero bytes of a gelf one, whose rest is dropped at its end
+pub other_connections :
+    answers empty [] (lines_text (codes "tcp syslog 0 p 3 abc2 d" ∷ codes "tcp syslog 0 p e" ∷ codes "tcp gelf 0 p a%00b" ∷ codes "end gelf 0" ∷ codes "end syslog 0" ∷ codes "list" ∷ []))
+    ≡ lines_text (codes "journalled 0" ∷ codes "journalled 1" ∷ codes "journalled 2" ∷ codes "journal 3 committed 0" ∷ [])
+unfolding digits utf8_lossy utf8_valid_len is_utf8 chars encode percent_decode percent_encode_byte has_count count behind_count frames_of is_too_long parts_of
+other_connections = refl

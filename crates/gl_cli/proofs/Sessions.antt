@@ -11,35 +11,34 @@ use Rattle.gl_outside.specs.Disk.{Image, DiskState, LeavesOnly, Tells}
 use Rattle.gl_node.specs.Moments.{LeftBy}
 use Rattle.gl_node.specs.Node.{NodeOn}
 use Rattle.gl_node.specs.State.{Base, State, Event, opened, state_after, happened}
+use Rattle.gl_cli.specs.declared.connections.Connections.{Connections}
 use Rattle.gl_cli.specs.declared.desk.Desk.{Desk}
 use Rattle.gl_cli.specs.declared.line.Line.{Line}
-use Rattle.gl_cli.specs.declared.line.Line.TheVariants.{Blank, At, Udp, Claim, Finish, Listing}
 use Rattle.gl_cli.specs.declared.reader.Next.TheVariants.{Line as Text}
-use Rattle.gl_cli.specs.Desk.{DeskKeeps}
+use Rattle.gl_cli.specs.Connections.{Connection}
 use Rattle.gl_cli.specs.Script.{lines_within, lines_run, bad_line, moment_after, moment_in, line_of, read_then, number_behind}
-use Rattle.gl_cli.specs.Runs.{Turn, turns_of, turn_of, all_events, all_text, turn_events, turn_text}
+use Rattle.gl_cli.specs.Runs.{Turn, connections_after, turns_of, turn_of, all_events, all_text, turn_events, turn_text}
 use Rattle.gl_cli.specs.Reading.{GivesKnown}
-use Rattle.gl_cli.specs.Sessions.{Running, Answered, CutShort, CutAt, DoesTurn, CutsTurn, DuringTurn, CutLeaves, turn_at, payload_turn}
+use Rattle.gl_cli.specs.Sessions.{Running, Answered, CutShort, CutAt, DoesTurn, CutsTurn, DuringTurn, CutLeaves, Follows, StandFor, With}
 use Rattle.gl_cli.proofs.Sinks.{Appends-more}
 
--- what a line gives depends on the lines before it by the moment alone
-pub turn_same : (past : List Line) (s : State) (moment : ℕ) (line : Line) → moment ≡ moment_after past → turn_at moment line s ≡ turn_of past s false line
-turn_same past s moment Blank e = refl
-turn_same past s moment (At next) e = refl
-turn_same past s moment (Udp input peer payload) e = ap (λ m. payload_turn m input peer payload s) e
-turn_same past s moment (Claim worker limit) e = refl
-turn_same past s moment (Finish worker) e = refl
-turn_same past s moment Listing e = refl
+-- a line's turn, by the moment after the lines before it
+pub does_line : (old new : Desk) (from to : Connections) (before now : Option (List ℕ)) (moment : ℕ) (line : Line)
+    → With from (λ cs. DoesTurn (turn_of moment cs false line) old new before now) → Follows line old from to
+    → (s : State) (cs : List Connection) (past : List Line) → StandFor old from s cs → moment ≡ moment_after past
+    → StandFor new to (state_after s (turn_events (turn_of (moment_after past) cs false line s))) (connections_after s cs line)
+    × Answered (turn_of (moment_after past) cs false line s) before now
+does_line old new from to before now moment line does follows s cs past stand e =
+    let done = does cs stand.1 s stand.0 in
+    subst (λ (m : ℕ). StandFor new to (state_after s (turn_events (turn_of m cs false line s))) (connections_after s cs line) × Answered (turn_of m cs false line s) before now) e
+    ((done.0, follows cs stand.1 s stand.0), done.1)
 
-pub does_line : (old new : Desk) (before now : Option (List ℕ)) (moment : ℕ) (line : Line) → DoesTurn (turn_at moment line) old new before now
-    → (s : State) (past : List Line) → DeskKeeps old s → moment ≡ moment_after past
-    → DeskKeeps new (state_after s (turn_events (turn_of past s false line))) × Answered (turn_of past s false line) before now
-does_line old new before now moment line does s past kept e =
-    subst (λ (t : Turn). DeskKeeps new (state_after s (turn_events t)) × Answered t before now) (turn_same past s moment line e) (does s kept)
-
-pub cuts_line : (old : Desk) (before now : Option (List ℕ)) (moment : ℕ) (line : Line) → CutsTurn (turn_at moment line) old before now
-    → (s : State) (past : List Line) → DeskKeeps old s → moment ≡ moment_after past → CutShort (turn_of past s false line) before now
-cuts_line old before now moment line cuts s past kept e = subst (λ (t : Turn). CutShort t before now) (turn_same past s moment line e) (cuts s kept)
+pub cuts_line : (old : Desk) (from : Connections) (before now : Option (List ℕ)) (moment : ℕ) (line : Line)
+    → With from (λ cs. CutsTurn (turn_of moment cs false line) old before now)
+    → (s : State) (cs : List Connection) (past : List Line) → StandFor old from s cs → moment ≡ moment_after past
+    → CutShort (turn_of (moment_after past) cs false line s) before now
+cuts_line old from before now moment line cuts s cs past stand e =
+    subst (λ (m : ℕ). CutShort (turn_of m cs false line s) before now) e (cuts cs stand.1 s stand.0)
 
 pub moment_after-more : (past : List Line) (line : Line) → moment_after (past ++ line ∷ []) ≡ max (moment_after past) (moment_in line)
 moment_after-more past line =
@@ -56,28 +55,29 @@ pub all_text-more : (turns : List Turn) (turn : Turn) → all_text (turns ++ tur
 all_text-more turns turn = flat_map-append turn_text turns (turn ∷ []) ∙ ap (λ es. all_text turns ++ es) (append-nil (turn_text turn))
 
 -- the lines ahead begin with a line that is read
-pub turns_of-line : (past : List Line) (s : State) (lines : List (List ℕ)) (text : List ℕ) (rest : List (List ℕ)) (line : Line)
+pub turns_of-line : (past : List Line) (cs : List Connection) (s : State) (lines : List (List ℕ)) (text : List ℕ) (rest : List (List ℕ)) (line : Line)
     → lines ≡ text ∷ rest → line_of text ≡ Some line
-    → turns_of past s [] (lines_run lines)
-    ≡ turn_of past s false line ∷ turns_of (past ++ line ∷ []) (state_after s (turn_events (turn_of past s false line))) [] (lines_run rest)
-turns_of-line past s lines text rest line e f =
-    ap (λ ls. turns_of past s [] (lines_run ls)) e ∙ ap (λ o. turns_of past s [] (read_then o (lines_run rest))) f
+    → turns_of past cs s [] (lines_run lines)
+    ≡ turn_of (moment_after past) cs false line s
+    ∷ turns_of (past ++ line ∷ []) (connections_after s cs line) (state_after s (turn_events (turn_of (moment_after past) cs false line s))) [] (lines_run rest)
+turns_of-line past cs s lines text rest line e f =
+    ap (λ ls. turns_of past cs s [] (lines_run ls)) e ∙ ap (λ o. turns_of past cs s [] (read_then o (lines_run rest))) f
 
 pub bad_line-more : (number : ℕ) (later : Option ℕ) → option_map (λ k. number + k) (option_map suc later) ≡ option_map (λ k. number + 1 + k) later
 bad_line-more number None = refl
 bad_line-more number (Some k) = let n : number + suc k ≡ number + 1 + k = omega arith in ap (λ (x : ℕ). Some x) n
 
-pub running_more : (base : Base) (script : List ℕ) (before mid now : Option (List ℕ)) (s : State) (rest : Option (List ℕ))
+pub running_more : (base : Base) (script : List ℕ) (before mid now : Option (List ℕ)) (s : State) (cs : List Connection) (rest : Option (List ℕ))
     (budget left number moment later : ℕ) (text : List ℕ) (line : Line)
-    {ahead : Option (List ℕ)} (r : Running base script before mid s ahead budget number moment)
+    {ahead : Option (List ℕ)} (r : Running base script before mid s cs ahead budget number moment)
     → GivesKnown (Text text) (Some r.text) budget rest left
     → line_of text ≡ Some line
-    → Answered (turn_of r.past s false line) mid now
+    → Answered (turn_of (moment_after r.past) cs false line s) mid now
     → later ≡ max moment (moment_in line)
-    → Running base script before now (state_after s (turn_events (turn_of r.past s false line))) rest left (number + 1) later
-running_more base script before mid now s None budget left number moment later text line r g e gained m = absurd g
-running_more base script before mid now s (Some rest) budget left number moment later text line r g e gained m =
-    let turn : Turn = turn_of r.past s false line in
+    → Running base script before now (state_after s (turn_events (turn_of (moment_after r.past) cs false line s))) (connections_after s cs line) rest left (number + 1) later
+running_more base script before mid now s cs None budget left number moment later text line r g e gained m = absurd g
+running_more base script before mid now s cs (Some rest) budget left number moment later text line r g e gained m =
+    let turn : Turn = turn_of (moment_after r.past) cs false line s in
     let after : State = state_after s (turn_events turn) in
     record {
       turns = r.turns ++ turn ∷ [];
@@ -85,8 +85,8 @@ running_more base script before mid now s (Some rest) budget left number moment 
       text = rest;
       ahead_is = refl;
       all = r.all
-          ∙ ap (λ ts. r.turns ++ ts) (turns_of-line r.past s (lines_within budget r.text) text (lines_within left rest) line g.0 e)
-          ∙ sym (append_assoc r.turns (turn ∷ []) (turns_of (r.past ++ line ∷ []) after [] (lines_run (lines_within left rest))));
+          ∙ ap (λ ts. r.turns ++ ts) (turns_of-line r.past cs s (lines_within budget r.text) text (lines_within left rest) line g.0 e)
+          ∙ sym (append_assoc r.turns (turn ∷ []) (turns_of (r.past ++ line ∷ []) (connections_after s cs line) after [] (lines_run (lines_within left rest))));
       state_is = ap (λ q. state_after q (turn_events turn)) r.state_is
           ∙ state_after-more (opened base) (all_events r.turns) (turn_events turn)
           ∙ ap (state_after (opened base)) (sym (all_events-more r.turns turn));
@@ -99,12 +99,16 @@ running_more base script before mid now s (Some rest) budget left number moment 
     }
 
 -- the same for what a crash leaves of a line
-pub during_line : (old : Desk) (moment : ℕ) (line : Line) (d0 d1 : DiskState) → DuringTurn (turn_at moment line) old d0 d1 → Tells d0 → NodeOn old.node d0
-    → (s : State) (past : List Line) → DeskKeeps old s → moment ≡ moment_after past → LeavesOnly d0 d1 (LeftBy s (turn_events (turn_of past s false line)) d0)
-during_line old moment line d0 d1 during tells on s past kept e =
-    subst (λ (t : Turn). LeavesOnly d0 d1 (LeftBy s (turn_events t) d0)) (turn_same past s moment line e) (during tells on s kept)
+pub during_line : (old : Desk) (from : Connections) (moment : ℕ) (line : Line) (d0 d1 : DiskState)
+    → With from (λ cs. DuringTurn (turn_of moment cs false line) old d0 d1) → Tells d0 → NodeOn old.node d0
+    → (s : State) (cs : List Connection) (past : List Line) → StandFor old from s cs → moment ≡ moment_after past
+    → LeavesOnly d0 d1 (LeftBy s (turn_events (turn_of (moment_after past) cs false line s)) d0)
+during_line old from moment line d0 d1 during tells on s cs past stand e =
+    subst (λ (m : ℕ). LeavesOnly d0 d1 (LeftBy s (turn_events (turn_of m cs false line s)) d0)) e (during cs stand.1 tells on s stand.0)
 
-pub cut_line : (old : Desk) (before now : Option (List ℕ)) (moment : ℕ) (line : Line) (d0 d1 : DiskState) → CutLeaves (turn_at moment line) old before now d0 d1 → Tells d0 → NodeOn old.node d0
-    → (s : State) (past : List Line) → DeskKeeps old s → moment ≡ moment_after past → (c : Image) → d1.may_leave c → CutAt s (turn_of past s false line) before now c
-cut_line old before now moment line d0 d1 cut tells on s past kept e c left =
-    subst (λ (t : Turn). CutAt s t before now c) (turn_same past s moment line e) (cut tells on s kept c left)
+pub cut_line : (old : Desk) (from : Connections) (before now : Option (List ℕ)) (moment : ℕ) (line : Line) (d0 d1 : DiskState)
+    → With from (λ cs. CutLeaves (turn_of moment cs false line) old before now d0 d1) → Tells d0 → NodeOn old.node d0
+    → (s : State) (cs : List Connection) (past : List Line) → StandFor old from s cs → moment ≡ moment_after past
+    → (c : Image) → d1.may_leave c → CutAt s (turn_of (moment_after past) cs false line s) before now c
+cut_line old from before now moment line d0 d1 cut tells on s cs past stand e c left =
+    subst (λ (m : ℕ). CutAt s (turn_of m cs false line s) before now c) e (cut cs stand.1 tells on s stand.0 c left)

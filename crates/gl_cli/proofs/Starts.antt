@@ -13,12 +13,13 @@ use Rattle.gl_cli.specs.declared.status.Command.{Command}
 use Rattle.gl_cli.specs.declared.status.Command.TheVariants as asked
 use Rattle.gl_cli.specs.declared.status.Status.{Status}
 use Rattle.gl_cli.specs.declared.status.Status.TheVariants.{Done, Usage, SinkFault, DiskFault, Damaged, OutOfMemory, SourceFault, BadScript, PatternFault, ScriptTooLong}
-use Rattle.gl_cli.specs.Crashes.{ExitShows, IsUntouched, ShownAt}
+use Rattle.gl_cli.specs.Crashes.{ExitShows, IsUntouched, ShownAt, next_turn}
 use Rattle.gl_cli.specs.Ends.{AnsweredAll, IsCheckStatus, CheckEnd, CommandEnd, OfEvents, WroteLine, check_text}
 use Rattle.gl_cli.specs.Runs.{all_events, script_turns}
 use Rattle.gl_cli.specs.Statuses.{IsSinkStatus}
 use Rattle.gl_cli.specs.Writing.{AppendsSome, BeginsWith}
 use Rattle.gl_cli.proofs.Exits.{unanswered, IsOther}
+use Rattle.gl_cli.proofs.Moments.{told_none}
 use Rattle.gl_cli.proofs.Openings.{IfSome-any, ends_unread}
 use Rattle.gl_cli.proofs.Sinks.{Appends-nothing}
 
@@ -65,7 +66,7 @@ shown_first base script sink c stands = record {
   begins = (_, refl);
   count = 0;
   few = omega arith;
-  told = λ some. absurd (some refl);
+  told = told_none (next_turn (script_turns base [] script));
   stands = stands;
 }
 

@@ -9,10 +9,11 @@ use Rattle.std.proofs.lemmas.List.{take-append-drop}
 use Rattle.std.proofs.lemmas.List.Splits.{slice_split_none, slice_split_at, join_with_byte-slice_split, length-slice_split}
 use Rattle.std.proofs.lemmas.List.Sums.{fold-append}
 use Rattle.std.proofs.Math.Seq.{drop-cons}
-use Rattle.gl_cli.specs.Script.{words_of, digits_value, is_number, number_in, at_line, udp_line, claim_line, finish_line, list_line, is_name}
+use Rattle.gl_cli.specs.Script.{words_of, digits_value, is_number, number_in, at_line, udp_line, connection_in, tcp_line, end_line, claim_line, finish_line, list_line, is_name}
 use Rattle.gl_cli.specs.declared.line.Line.{Line}
-use Rattle.gl_cli.specs.declared.line.Line.TheVariants.{Udp}
+use Rattle.gl_cli.specs.declared.line.Line.TheVariants.{Udp, Tcp}
 use Rattle.percent_encoding.specs.Percent.{percent_decode}
+use Rattle.std.specs.Option.{option_map}
 use Rattle.std.specs.Int.{is_in_range}
 use Rattle.std.specs.Str.{IsUtf8}
 use Rattle.std.specs.List.{AllPass}
@@ -119,3 +120,49 @@ claim_line-more one other (next ∷ rest) h = refl
 pub list_line-more : (rest : List (List ℕ)) → 0 < length rest → None ≡ list_line rest
 list_line-more [] h = absurd (omega (arith, h))
 list_line-more (next ∷ rest) h = refl
+
+-- ---- the lines of connections
+
+pub tcp_line-short : (input : List ℕ) (words : List (List ℕ)) → length words < 3 → None ≡ tcp_line (input ∷ words)
+tcp_line-short input [] h = refl
+tcp_line-short input (a ∷ []) h = refl
+tcp_line-short input (a ∷ b ∷ []) h = refl
+tcp_line-short input (a ∷ b ∷ c ∷ words) h = absurd (omega (arith, h))
+
+-- what the words ask for, by what the number is read as
+abbrev pub tcp_by : List ℕ → List ℕ → List ℕ → Option ℕ → Option Line
+tcp_by input peer payload number =
+    if is_name 64 input && is_name 255 peer then option_map (λ n. Tcp input n peer (percent_decode payload)) number else None
+
+tcp_line-some : (input a b : List ℕ) (words : List (List ℕ)) → 0 < length words
+    → tcp_line (input ∷ a ∷ b ∷ words)
+    ≡ (if is_name 64 input && is_name 255 b then option_map (λ n. Tcp input n b (percent_decode (join_with_byte 32 words))) (connection_in a) else None)
+tcp_line-some input a b [] h = absurd (omega (arith, h))
+tcp_line-some input a b (c ∷ words) h = refl
+
+pub tcp_line-words : (input : List ℕ) (words : List (List ℕ)) (a b c : List ℕ) → words ≡ a ∷ b ∷ words_of c
+    → tcp_line (input ∷ words) ≡ tcp_by input b c (connection_in a)
+tcp_line-words input words a b c e =
+    ap (λ ws. tcp_line (input ∷ ws)) e ∙ tcp_line-some input a b (words_of c) (words_of-some c)
+    ∙ ap (λ p. if is_name 64 input && is_name 255 b then option_map (λ n. Tcp input n b (percent_decode p)) (connection_in a) else None) (join_with_byte-slice_split 32 c)
+
+-- a name that is none, and a number that is none
+pub tcp_by-none : (input peer payload : List ℕ) (number : Option ℕ) → is_name 64 input && is_name 255 peer ≡ false → None ≡ tcp_by input peer payload number
+tcp_by-none input peer payload number e = sym (ap (λ b. if b then option_map (λ n. Tcp input n peer (percent_decode payload)) number else None) e)
+
+pub tcp_by-no_number : (input peer payload : List ℕ) (number : Option ℕ) → number ≡ None → None ≡ tcp_by input peer payload number
+tcp_by-no_number input peer payload number e = sym (ap (λ o. tcp_by input peer payload o) e ∙ either (is_name 64 input && is_name 255 peer))
+  where
+    either : (b : Bool) → (if b then option_map (λ n. Tcp input n peer (percent_decode payload)) None else None) ≡ None
+    either true = refl
+    either false = refl
+
+pub tcp_by-some : (input peer payload : List ℕ) (number : Option ℕ) (n : ℕ) → is_name 64 input ≡ true → is_name 255 peer ≡ true → number ≡ Some n
+    → Some (Tcp input n peer (percent_decode payload)) ≡ tcp_by input peer payload number
+tcp_by-some input peer payload number n p q e = sym
+    (if_both (is_name 64 input) (is_name 255 peer) (option_map (λ m. Tcp input m peer (percent_decode payload)) number) p q
+    ∙ ap (λ o. option_map (λ m. Tcp input m peer (percent_decode payload)) o) e)
+
+pub end_line-more : (input word : List ℕ) (rest : List (List ℕ)) → 0 < length rest → None ≡ end_line (input ∷ word ∷ rest)
+end_line-more input word [] h = absurd (omega (arith, h))
+end_line-more input word (next ∷ rest) h = refl

@@ -13,7 +13,7 @@ use Rattle.gl_fields.specs.declared.entry.Outcome.{Outcome}
 use Rattle.gl_fields.specs.declared.entry.Outcome.TheVariants.{Applied, Stored, Dropped, Undecodable}
 use Rattle.gl_node.specs.declared.mark.Mark.{Mark}
 use Rattle.gl_node.specs.declared.answer.Arrival.{Arrival}
-use Rattle.gl_node.specs.declared.answer.Arrival.TheVariants.{Journalled, Empty, FrameTooLong, UnknownInput, JournalFull}
+use Rattle.gl_node.specs.declared.answer.Arrival.TheVariants.{Journalled, Empty, Held, Repeat, BadChunk, CountMismatch, ChunkTableFull, FrameTooLong, UnknownInput, JournalFull}
 use Rattle.gl_node.specs.Claims.{ClaimAnswer, Granted, Nothing, Busy, FinishAnswer, CommittedTo, Kept, NoClaim, IndexFull}
 
 -- words as a line: parted by spaces, and ended by a line feed
@@ -26,6 +26,11 @@ end_of mark = mark.first + mark.count
 abbrev pub arrival_words : Arrival → List (List ℕ)
 arrival_words (Journalled position) = codes "journalled" ∷ decimal position ∷ []
 arrival_words Empty = codes "empty" ∷ []
+arrival_words Held = codes "held" ∷ []
+arrival_words Repeat = codes "repeat" ∷ []
+arrival_words BadChunk = codes "bad-chunk" ∷ []
+arrival_words (CountMismatch kept given) = codes "count-mismatch" ∷ decimal kept ∷ decimal given ∷ []
+arrival_words ChunkTableFull = codes "chunk-table-full" ∷ []
 arrival_words FrameTooLong = codes "frame-too-long" ∷ []
 arrival_words UnknownInput = codes "unknown-input" ∷ []
 arrival_words (JournalFull bytes limit) = codes "journal-full" ∷ decimal bytes ∷ decimal limit ∷ []

@@ -1,26 +1,32 @@
 -- What a crash leaves of a session that has ended.
-use Rattle.std.specs.Prelude.{◌≡◌, ◌≢◌, ◌⊎◌, ℕ, ◌≤◌, List, [], ◌∷◌, ◌++◌, length, take, Option, IfSome}
+use Rattle.std.specs.Prelude.{◌≡◌, ◌⊎◌, ℕ, ◌+◌, ◌≤◌, List, [], ◌∷◌, ◌++◌, length, take, drop, Option, IfSome}
 use Rattle.std.specs.Io.KnownBytes.{Appends}
 use Rattle.gl_outside.specs.Disk.{DiskState, Image, IsUnchanged}
-use Rattle.gl_node.specs.State.{Base, Event, opened, state_after}
+use Rattle.gl_node.specs.State.{Base, opened, state_after}
 use Rattle.gl_node.specs.Standing.{StandsFor}
 use Rattle.gl_cli.specs.declared.status.Command.{Command}
 use Rattle.gl_cli.specs.declared.status.Command.TheVariants as asked
 use Rattle.gl_cli.specs.Writing.{BeginsWith}
 use Rattle.gl_cli.specs.Runs.{Turn, script_turns, last_state, turn_events, turn_text, all_events, all_text, done_text}
 
--- the events of the next of these lines, and what is written next: its answer lines, and behind all lines the last line of the session
-abbrev pub next_events : List Turn → List Event
-next_events [] = []
-next_events (turn ∷ turns) = turn_events turn
+-- what the next of these lines gives, and what is written next: its answer lines, and behind all lines the last line of the session
+abbrev pub next_turn : List Turn → Turn
+next_turn [] = []
+next_turn (turn ∷ turns) = turn
 
 abbrev pub next_text : List ℕ → List Turn → List ℕ
 next_text at_end [] = at_end
 next_text at_end (turn ∷ turns) = turn_text turn
 
--- At an exit some lines were answered, and of the next line a front of its answer is in the sink. The image stands for the
--- state after the events of the answered lines and some of the first of the next one: after all of these where a byte
--- of its answer is in the sink. So it holds each event whose answer has a byte in the sink, and none of a later line.
+-- how many of a turn's events a front of its text tells: those of each answer line that has a byte in it
+abbrev pub told_events : Turn → List ℕ → ℕ
+told_events [] front = 0
+told_events (step ∷ turn) [] = 0
+told_events (step ∷ turn) (b ∷ front) = length step.events + told_events turn (drop (length step.text) (b ∷ front))
+
+-- At an exit some lines were answered, and of the next line a front of its answer lines is in the sink. The image stands for the
+-- state after the events of the answered lines and some of the first of the next one: all those of each answer line that
+-- has a byte in the sink. So it holds each event whose answer has a byte in the sink, and none of a later line.
 pub record ShownAt (base : Base) (script : List ℕ) (before after : Option (List ℕ)) (image : Image) : Type 0 where
   pub answered : List Turn
   pub ahead : List Turn
@@ -29,9 +35,9 @@ pub record ShownAt (base : Base) (script : List ℕ) (before after : Option (Lis
   pub gained : Appends before after (all_text answered ++ written)
   pub begins : BeginsWith (next_text (done_text (last_state base (script_turns base [] script))) ahead) written
   pub count : ℕ
-  pub few : count ≤ length (next_events ahead)
-  pub told : written ≢ [] → count ≡ length (next_events ahead)
-  pub stands : StandsFor image (state_after (opened base) (all_events answered ++ take count (next_events ahead)))
+  pub few : count ≤ length (turn_events (next_turn ahead))
+  pub told : told_events (next_turn ahead) written ≤ count
+  pub stands : StandsFor image (state_after (opened base) (all_events answered ++ take count (turn_events (next_turn ahead))))
 
 -- the disk is as it was, and nothing was written
 abbrev pub IsUntouched : DiskState → DiskState → Option (List ℕ) → Option (List ℕ) → Type 0

@@ -1,8 +1,10 @@
 pub mod Answers
 pub mod Arrivals
+pub mod Connections
 pub mod Crashes
 pub mod Desk
 pub mod Ends
+pub mod Opened
 pub mod Parsing
 pub mod Reading
 pub mod Runs

@@ -7,7 +7,7 @@ use Rattle.std.specs.Str.{bytes_eq}
 use Rattle.std.specs.Char.{is_ascii_digit}
 use Rattle.percent_encoding.specs.Percent.{percent_decode}
 use Rattle.gl_cli.specs.declared.line.Line.{Line}
-use Rattle.gl_cli.specs.declared.line.Line.TheVariants.{Blank, At, Udp, Claim, Finish, Listing}
+use Rattle.gl_cli.specs.declared.line.Line.TheVariants.{Blank, At, Udp, Tcp, End, Claim, Finish, Listing}
 
 -- a number in plain digits: without a sign, and with no zero before another digit
 abbrev pub digits_value : List ℕ → ℕ
@@ -51,6 +51,21 @@ udp_line (input ∷ peer ∷ word ∷ words) =
     else None
 udp_line rest = None
 
+-- the number of a connection
+abbrev pub connection_in : List ℕ → Option ℕ
+connection_in word = number_in 0 (2 ^ 32 - 1) word
+
+abbrev pub tcp_line : List (List ℕ) → Option Line
+tcp_line (input ∷ number ∷ peer ∷ word ∷ words) =
+    if is_name 64 input && is_name 255 peer
+    then option_map (λ n. Tcp input n peer (percent_decode (join_with_byte 32 (word ∷ words)))) (connection_in number)
+    else None
+tcp_line rest = None
+
+abbrev pub end_line : List (List ℕ) → Option Line
+end_line (input ∷ number ∷ []) = if is_name 64 input then option_map (λ n. End input n) (connection_in number) else None
+end_line rest = None
+
 abbrev pub claim_line : List (List ℕ) → Option Line
 claim_line (worker ∷ limit ∷ []) =
     option_and_then (λ w. option_map (λ n. Claim w n) (number_in 1 256 limit)) (number_in 0 (workers - 1) worker)
@@ -69,10 +84,12 @@ line_of_words [] = None
 line_of_words (word ∷ rest) =
     if bytes_eq word (codes "at") then at_line rest
     else (if bytes_eq word (codes "udp") then udp_line rest
+    else (if bytes_eq word (codes "tcp") then tcp_line rest
+    else (if bytes_eq word (codes "end") then end_line rest
     else (if bytes_eq word (codes "claim") then claim_line rest
     else (if bytes_eq word (codes "finish") then finish_line rest
     else (if bytes_eq word (codes "list") then list_line rest
-    else None))))
+    else None))))))
 
 -- nothing, or a remark
 abbrev pub is_blank : List ℕ → Bool

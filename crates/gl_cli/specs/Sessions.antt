@@ -1,5 +1,5 @@
 -- A session in the middle of its script.
-use Rattle.std.specs.Prelude.{◌≡◌, ◌≢◌, ℕ, ◌+◌, ◌<◌, ◌≤◌, ◌↔◌, List, [], ◌∷◌, ◌++◌, length, take, Option, Some, ⊤}
+use Rattle.std.specs.Prelude.{◌≡◌, ℕ, ◌+◌, ◌<◌, ◌≤◌, ◌↔◌, List, [], ◌∷◌, ◌++◌, length, take, Option, Some, ⊤}
 use Rattle.std.specs.List.{flat_map, enumerate_from}
 use Rattle.std.specs.Fmt.{decimal}
 use Rattle.std.specs.Option.{option_map}
@@ -10,20 +10,27 @@ use Rattle.gl_node.specs.Node.{NodeOn}
 use Rattle.gl_node.specs.Standing.{StandsFor}
 use Rattle.gl_node.specs.State.{Base, State, opened, state_after}
 use Rattle.gl_fields.specs.declared.entry.Outcome.{Outcome}
-use Rattle.gl_node.specs.Arrivals.{arrival_of, arrival_events}
 use Rattle.gl_node.specs.Claims.{claim_answer, claimed_by, finish_answer, finish_events}
+use Rattle.gl_cli.specs.declared.connections.Connections.{Connections}
 use Rattle.gl_cli.specs.declared.desk.Desk.{Desk}
 use Rattle.gl_cli.specs.declared.line.Line.{Line}
-use Rattle.gl_cli.specs.declared.line.Line.TheVariants.{Blank, At, Udp, Claim, Finish, Listing}
-use Rattle.gl_cli.specs.Answers.{words_text, arrival_words, claim_words, finish_words, outcome_words}
+use Rattle.gl_cli.specs.declared.line.Line.TheVariants.{Blank, At, Udp, Tcp, End, Claim, Finish, Listing}
+use Rattle.gl_cli.specs.Answers.{words_text, claim_words, finish_words, outcome_words}
+use Rattle.gl_cli.specs.Connections.{Connection}
+use Rattle.gl_cli.specs.Crashes.{told_events}
 use Rattle.gl_cli.specs.Desk.{DeskKeeps}
 use Rattle.gl_cli.specs.Script.{lines_within, lines_run, bad_line, script_lines, script_limit, moment_after, last_moment}
-use Rattle.gl_cli.specs.Runs.{Turn, answered, listed, turns_of, script_turns, all_events, all_text, turn_events, turn_text}
+use Rattle.gl_cli.specs.Opened.{Stand}
+use Rattle.gl_cli.specs.Runs.{Turn, answered, connections_after, payload_step, turns_of, script_turns, all_events, all_text, turn_events, turn_text}
 use Rattle.gl_cli.specs.Writing.{BeginsWith}
 
--- something stands for a state of which this holds
-abbrev pub SomeAfter : (State → Type 0) → (State → Type 0) → Type 0
-SomeAfter stands P = (s : State) × stands s × P s
+-- a desk keeps a state, and connections stand for what they were sent
+abbrev pub StandFor : Desk → Connections → State → List Connection → Type 0
+StandFor desk connections s cs = DeskKeeps desk s × Stand connections.all.items cs
+
+-- something stands for a state and connections of which this holds
+abbrev pub SomeAfter : (State → List Connection → Type 0) → (State → List Connection → Type 0) → Type 0
+SomeAfter stands P = (s : State) × (cs : List Connection) × stands s cs × P s cs
 
 -- a script of which some lines were read: what is ahead decides its status, whatever a node answers
 pub record ReadTo (script : List ℕ) (ahead : Option (List ℕ)) (budget number : ℕ) : Type 0 where
@@ -33,22 +40,20 @@ pub record ReadTo (script : List ℕ) (ahead : Option (List ℕ)) (budget number
   pub long : (length script ≤ script_limit) ↔ (length text ≤ budget)
 
 -- a session that has answered some lines: the turns so far, and then those of the lines ahead, are all
-pub record Running (base : Base) (script : List ℕ) (before now : Option (List ℕ)) (s : State) (ahead : Option (List ℕ)) (budget number moment : ℕ) : Type 0 where
+pub record Running (base : Base) (script : List ℕ) (before now : Option (List ℕ)) (s : State) (cs : List Connection) (ahead : Option (List ℕ)) (budget number moment : ℕ) : Type 0 where
   pub turns : List Turn
   pub past : List Line
   pub text : List ℕ
   pub ahead_is : ahead ≡ Some text
-  pub all : script_turns base [] script ≡ turns ++ turns_of past s [] (lines_run (lines_within budget text))
+  pub all : script_turns base [] script ≡ turns ++ turns_of past cs s [] (lines_run (lines_within budget text))
   pub state_is : s ≡ state_after (opened base) (all_events turns)
   pub moment_is : moment ≡ moment_after past
   pub bad : bad_line (script_lines script) ≡ option_map (λ k. number + k) (bad_line (lines_within budget text))
   pub long : (length script ≤ script_limit) ↔ (length text ≤ budget)
   pub gained : Appends before now (all_text turns)
 
--- what a line gives at a moment: only by the moment does it depend on the lines before it
 abbrev pub payload_turn : ℕ → List ℕ → List ℕ → List ℕ → State → Turn
-payload_turn moment input peer payload s =
-    answered (arrival_words (arrival_of s moment input peer payload)) (arrival_events s moment input peer payload) ∷ []
+payload_turn moment input peer bytes s = payload_step moment input peer bytes s ∷ []
 
 abbrev pub claim_turn : ℕ → ℕ → State → Turn
 claim_turn worker limit s =
@@ -56,14 +61,6 @@ claim_turn worker limit s =
 
 abbrev pub finish_turn : ℕ → State → Turn
 finish_turn worker s = answered (finish_words (finish_answer s worker)) (finish_events s worker) ∷ []
-
-abbrev pub turn_at : ℕ → Line → State → Turn
-turn_at moment Blank s = []
-turn_at moment (At next) s = []
-turn_at moment (Udp input peer payload) s = payload_turn moment input peer payload s
-turn_at moment (Claim worker limit) s = claim_turn worker limit s
-turn_at moment (Finish worker) s = finish_turn worker s
-turn_at moment Listing s = listed s
 
 -- the lines of a list behind its first one
 abbrev pub outcomes_text : List Outcome → List ℕ
@@ -74,6 +71,8 @@ abbrev pub IsFit : Line → Type 0
 IsFit Blank = ⊤
 IsFit (At next) = next ≤ last_moment
 IsFit (Udp input peer payload) = (0 < length peer) × (length peer ≤ 255)
+IsFit (Tcp input number peer payload) = (0 < length peer) × (length peer ≤ 255)
+IsFit (End input number) = ⊤
 IsFit (Claim worker limit) = (worker < 64) × (1 ≤ limit) × (limit ≤ 256)
 IsFit (Finish worker) = worker < 64
 IsFit Listing = ⊤
@@ -102,17 +101,25 @@ DuringTurn turn desk old new =
     Tells old → NodeOn desk.node old → (s : State) → DeskKeeps desk s → LeavesOnly old new (LeftBy s (turn_events (turn s)) old)
 
 -- Where the session ended in a line: a front of its answer lines is in the sink, and the image stands for the state after
--- some of the first of its events, after all of them where a byte of its answer is in the sink.
+-- some of the first of its events, all those of each answer line that has a byte in the sink.
 pub record CutAt (s : State) (turn : Turn) (before now : Option (List ℕ)) (image : Image) : Type 0 where
   pub front : List ℕ
   pub begins : BeginsWith (turn_text turn) front
   pub gained : Appends before now front
   pub count : ℕ
   pub few : count ≤ length (turn_events turn)
-  pub told : front ≢ [] → count ≡ length (turn_events turn)
+  pub told : told_events turn front ≤ count
   pub stands : StandsFor image (state_after s (take count (turn_events turn)))
 
 -- So it is with each image that a crash may leave then.
 abbrev pub CutLeaves : (State → Turn) → Desk → Option (List ℕ) → Option (List ℕ) → DiskState → DiskState → Type 0
 CutLeaves turn desk before now old new =
     Tells old → NodeOn desk.node old → (s : State) → DeskKeeps desk s → (image : Image) → new.may_leave image → CutAt s (turn s) before now image
+
+-- The same by each list that the connections stand for: it is a line's turn with these connections.
+abbrev pub With : Connections → (List Connection → Type 0) → Type 0
+With connections P = (cs : List Connection) → Stand connections.all.items cs → P cs
+
+-- after a line they stand for what it leaves of the list
+abbrev pub Follows : Line → Desk → Connections → Connections → Type 0
+Follows line desk old new = (cs : List Connection) → Stand old.all.items cs → (s : State) → DeskKeeps desk s → Stand new.all.items (connections_after s cs line)

@@ -1,16 +1,20 @@
 // What a line of a script is answered.
-ghost use Rattle.std.specs.Prelude.{◌≡◌, ◌<◌, ◌≤◌, ℕ, length, IfOk, IfErr, OnOk, OnErr};
+ghost use Rattle.std.specs.Prelude.{◌≡◌, ◌<◌, ◌≤◌, ℕ, List, false, length, IfOk, IfErr, OnOk, OnErr};
 ghost use Rattle.std.specs.Io.KnownBytes.{Appends};
 ghost use Rattle.gl_base.specs.Counts.{HasCause};
 ghost use Rattle.gl_outside.specs.Disk.{Tells};
 ghost use Rattle.gl_node.specs.Node.{Keeps, NodeOn, NodeReady, store_of};
 ghost use Rattle.gl_node.specs.State.{State, outcomes};
 ghost use Rattle.gl_cli.specs.Desk.{DeskKeeps};
-ghost use Rattle.gl_cli.specs.Runs.{done_text, listed};
-ghost use Rattle.gl_cli.specs.Sessions.{DoesTurn, CutsTurn, DuringTurn, CutLeaves, IsFit, turn_at, payload_turn, claim_turn, finish_turn, outcomes_text};
+ghost use Rattle.gl_cli.specs.Connections.{Connection};
+ghost use Rattle.gl_cli.specs.Opened.{Stand};
+ghost use Rattle.gl_cli.specs.Runs.{done_text, listed, turn_of};
+ghost use Rattle.gl_cli.specs.Sessions.{DoesTurn, CutsTurn, DuringTurn, CutLeaves, Follows, IsFit, With, claim_turn, finish_turn, outcomes_text};
 ghost use Rattle.gl_cli.specs.Statuses.{IsSinkStatus, IsLineStatus};
 ghost use Rattle.gl_cli.specs.Writing.{AppendsSome};
 
+use crate::arriving::{answer_datagram, answer_end, answer_sent};
+use crate::connections::Connections;
 use crate::desk::Desk;
 use crate::line::Line;
 use crate::print;
@@ -32,42 +36,6 @@ pub fn send<K: Sink>(sink: &mut K, bytes: &[u8]) -> Result<(), Status>
         Err(Outside::Failed) => Err(Status::SinkFault),
         Err(Outside::OutOfMemory) => Err(Status::OutOfMemory),
     }
-}
-
-/// Hands a payload to the node, and answers.
-fn answer_payload<D: Disk, K: Sink>(
-    alloc: Global,
-    desk: &mut Desk,
-    disk: &mut D,
-    sink: &mut K,
-    moment: u64,
-    input: &str,
-    peer: &str,
-    payload: &[u8],
-) -> Result<(), Status>
-    requires moment { moment ≤ 253402300799999 }
-    requires some_peer { 0 < length peer.now }
-    requires short_peer { length peer.now ≤ 255 }
-    requires keeps { (s : State) × DeskKeeps desk.old s }
-    requires ready { Tells (D.state disk.old) → NodeReady desk.old.node (D.state disk.old) }
-    ensures answered { OnOk result (DoesTurn (payload_turn moment input.now peer.now payload.now) desk.old desk.new (K.contents sink.old) (K.contents sink.new)) }
-    ensures cut { OnErr result (CutsTurn (payload_turn moment input.now peer.now payload.now) desk.old (K.contents sink.old) (K.contents sink.new)) }
-    ensures ready { Tells (D.state disk.old) → OnOk result (NodeReady desk.new.node (D.state disk.new)) }
-    ensures stands { Tells (D.state disk.old) → NodeOn desk.old.node (D.state disk.old) → OnOk result (NodeOn desk.new.node (D.state disk.new)) }
-    ensures kind { IfErr result IsLineStatus }
-    ensures sink_cause { HasCause Status.SinkFault (K.faults sink.old) (K.faults sink.new) result }
-    ensures disk_cause { HasCause Status.DiskFault (D.faults disk.old) (D.faults disk.new) result }
-    ensures tells { (D.state disk.new).tells ≡ (D.state disk.old).tells }
-    // A crash at any moment leaves the state after some of the first of the line's events, and after all of them where
-    // a byte of the answer is in the sink.
-    ensures any_moment { DuringTurn (payload_turn moment input.now peer.now payload.now) desk.old (D.state disk.old) (D.state disk.new) }
-    ensures cut_leaves { OnErr result (CutLeaves (payload_turn moment input.now peer.now payload.now) desk.old (K.contents sink.old) (K.contents sink.new) (D.state disk.old) (D.state disk.new)) }
-{
-    let arrival = desk.datagram(disk, moment, input, peer, payload)?;
-    law_images_show_the_state(&desk.node, disk);
-    let text = print::arrival_text(alloc, &arrival)?;
-    send(sink, text.as_bytes())?;
-    Ok(())
 }
 
 /// Claims a range for a worker, and answers.
@@ -112,8 +80,8 @@ fn answer_finish<D: Disk, K: Sink>(
     ensures sink_cause { HasCause Status.SinkFault (K.faults sink.old) (K.faults sink.new) result }
     ensures disk_cause { HasCause Status.DiskFault (D.faults disk.old) (D.faults disk.new) result }
     ensures tells { (D.state disk.new).tells ≡ (D.state disk.old).tells }
-    // A crash at any moment leaves the state after some of the first of the line's events, and after all of them where
-    // a byte of the answer is in the sink.
+    // A crash at any moment leaves the state after some of the first of the line's events, and after those of each answer
+    // line that has a byte in the sink.
     ensures any_moment { DuringTurn (finish_turn worker) desk.old (D.state disk.old) (D.state disk.new) }
     ensures cut_leaves { OnErr result (CutLeaves (finish_turn worker) desk.old (K.contents sink.old) (K.contents sink.new) (D.state disk.old) (D.state disk.new)) }
 {
@@ -172,10 +140,11 @@ pub fn write_done<K: Sink>(alloc: Global, desk: &Desk, sink: &mut K) -> Result<(
 
 /// Does what a line asks for, and writes its answer lines as they become known.
 ///
-/// The clauses hold for each state that the desk keeps.
+/// The clauses hold for each state that the desk keeps, and each list that the connections stand for.
 pub fn answer_line<D: Disk, K: Sink>(
     alloc: Global,
     desk: &mut Desk,
+    connections: &mut Connections,
     disk: &mut D,
     sink: &mut K,
     moment: u64,
@@ -183,20 +152,22 @@ pub fn answer_line<D: Disk, K: Sink>(
 ) -> Result<(), Status>
     requires moment { moment ≤ 253402300799999 }
     requires fit { IsFit line.now }
+    requires connections { (cs : List Connection) × Stand connections.old.all.items cs }
     requires keeps { (s : State) × DeskKeeps desk.old s }
     requires ready { Tells (D.state disk.old) → NodeReady desk.old.node (D.state disk.old) }
-    ensures answered { OnOk result (DoesTurn (turn_at moment line.now) desk.old desk.new (K.contents sink.old) (K.contents sink.new)) }
-    ensures cut { OnErr result (CutsTurn (turn_at moment line.now) desk.old (K.contents sink.old) (K.contents sink.new)) }
+    ensures answered { OnOk result (With connections.old (λ cs. DoesTurn (turn_of moment cs false line.now) desk.old desk.new (K.contents sink.old) (K.contents sink.new))) }
+    ensures connections { OnOk result (Follows line.now desk.old connections.old connections.new) }
+    ensures cut { OnErr result (With connections.old (λ cs. CutsTurn (turn_of moment cs false line.now) desk.old (K.contents sink.old) (K.contents sink.new))) }
     ensures ready { Tells (D.state disk.old) → OnOk result (NodeReady desk.new.node (D.state disk.new)) }
     ensures stands { Tells (D.state disk.old) → NodeOn desk.old.node (D.state disk.old) → OnOk result (NodeOn desk.new.node (D.state disk.new)) }
     ensures kind { IfErr result IsLineStatus }
     ensures sink_cause { HasCause Status.SinkFault (K.faults sink.old) (K.faults sink.new) result }
     ensures disk_cause { HasCause Status.DiskFault (D.faults disk.old) (D.faults disk.new) result }
     ensures tells { (D.state disk.new).tells ≡ (D.state disk.old).tells }
-    // A crash at any moment leaves the state after some of the first of the line's events, and after all of them where
-    // a byte of the answer is in the sink.
-    ensures any_moment { DuringTurn (turn_at moment line.now) desk.old (D.state disk.old) (D.state disk.new) }
-    ensures cut_leaves { OnErr result (CutLeaves (turn_at moment line.now) desk.old (K.contents sink.old) (K.contents sink.new) (D.state disk.old) (D.state disk.new)) }
+    // A crash at any moment leaves the state after some of the first of the line's events, and after those of each answer
+    // line that has a byte in the sink.
+    ensures any_moment { With connections.old (λ cs. DuringTurn (turn_of moment cs false line.now) desk.old (D.state disk.old) (D.state disk.new)) }
+    ensures cut_leaves { OnErr result (With connections.old (λ cs. CutLeaves (turn_of moment cs false line.now) desk.old (K.contents sink.old) (K.contents sink.new) (D.state disk.old) (D.state disk.new))) }
 {
     law_images_show_the_state(&desk.node, disk);
     match line {
@@ -207,7 +178,7 @@ pub fn answer_line<D: Disk, K: Sink>(
             payload,
         } => {
             let (input, peer) = (input.as_str(), peer.as_str());
-            answer_payload(
+            answer_datagram(
                 alloc,
                 desk,
                 disk,
@@ -216,6 +187,40 @@ pub fn answer_line<D: Disk, K: Sink>(
                 input,
                 peer,
                 payload.as_slice(),
+            )?;
+            Ok(())
+        }
+        Line::Tcp {
+            input,
+            number,
+            peer,
+            payload,
+        } => {
+            let (input, peer) = (input.as_str(), peer.as_str());
+            answer_sent(
+                alloc,
+                desk,
+                connections,
+                disk,
+                sink,
+                moment,
+                input,
+                *number,
+                peer,
+                payload.as_slice(),
+            )?;
+            Ok(())
+        }
+        Line::End { input, number } => {
+            answer_end(
+                alloc,
+                desk,
+                connections,
+                disk,
+                sink,
+                moment,
+                input.as_str(),
+                *number,
             )?;
             Ok(())
         }

@@ -2,7 +2,7 @@
 ghost use Rattle.std.specs.Prelude.{◌≡◌, ◌≢◌, ◌+◌, ◌<◌, ◌≤◌, ℕ, ◌++◌, length, take, vec_capacity, IfOk, IfErr, OnOk, OnErr, MatchOption, All};
 ghost use Rattle.gl_base.specs.Counts.{HasCause};
 ghost use Rattle.gl_outside.specs.Disk.{Tells, LeavesOnly};
-ghost use Rattle.gl_node.specs.Arrivals.{arrival_of, arrival_events};
+ghost use Rattle.gl_node.specs.Arrivals.{arrival_of, arrival_events, datagram_answer, datagram_events};
 ghost use Rattle.gl_node.specs.Calls.{claimed_of, finished_of};
 ghost use Rattle.gl_node.specs.Claims.{claim_answer, claimed_by, finish_answer, finish_events};
 ghost use Rattle.gl_node.specs.Moments.{LeftBy};
@@ -52,8 +52,37 @@ impl Desk {
         self.given.iter().position(|given| given.worker == worker)
     }
 
-    /// Hands a payload to the node.
+    /// Hands a datagram to the node.
     pub fn datagram<D: Disk>(
+        &mut self,
+        disk: &mut D,
+        moment: u64,
+        input: &str,
+        peer: &str,
+        bytes: &[u8],
+    ) -> Result<Arrival, Status>
+        requires moment { moment ≤ 253402300799999 }
+        requires some_peer { 0 < length peer.now }
+        requires short_peer { length peer.now ≤ 255 }
+        requires keeps { (s : State) × DeskKeeps self.old s }
+        requires ready { Tells (D.state disk.old) → NodeReady self.old.node (D.state disk.old) }
+        ensures answer { IfOk result (λ arrival. (s : State) → DeskKeeps self.old s → (arrival ≡ datagram_answer s moment input.now peer.now bytes.now)
+            × DeskKeeps self.new (state_after s (datagram_events s moment input.now peer.now bytes.now))) }
+        ensures ready { Tells (D.state disk.old) → OnOk result (NodeReady self.new.node (D.state disk.new)) }
+        ensures stands { Tells (D.state disk.old) → NodeOn self.old.node (D.state disk.old) → OnOk result (NodeOn self.new.node (D.state disk.new)) }
+        ensures kind { IfErr result IsNodeStatus }
+        ensures cause { HasCause Status.DiskFault (D.faults disk.old) (D.faults disk.new) result }
+        ensures tells { (D.state disk.new).tells ≡ (D.state disk.old).tells }
+        // A crash at any moment leaves the state after some of the first of these events.
+        ensures any_moment { Tells (D.state disk.old) → NodeOn self.old.node (D.state disk.old) → (s : State) → DeskKeeps self.old s
+            → LeavesOnly (D.state disk.old) (D.state disk.new) (LeftBy s (datagram_events s moment input.now peer.now bytes.now) (D.state disk.old)) }
+    {
+        let arrival = self.node.datagram(disk, moment, input, peer, bytes)?;
+        Ok(arrival)
+    }
+
+    /// Hands a payload to the node.
+    pub fn payload<D: Disk>(
         &mut self,
         disk: &mut D,
         moment: u64,
@@ -77,7 +106,7 @@ impl Desk {
         ensures any_moment { Tells (D.state disk.old) → NodeOn self.old.node (D.state disk.old) → (s : State) → DeskKeeps self.old s
             → LeavesOnly (D.state disk.old) (D.state disk.new) (LeftBy s (arrival_events s moment input.now peer.now bytes.now) (D.state disk.old)) }
     {
-        let arrival = self.node.datagram(disk, moment, input, peer, bytes)?;
+        let arrival = self.node.payload(disk, moment, input, peer, bytes)?;
         Ok(arrival)
     }
 

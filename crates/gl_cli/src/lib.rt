@@ -7,8 +7,11 @@
 #![tactic(auto)]
 
 mod answering;
+mod arriving;
 mod checking;
+mod connections;
 mod desk;
+mod frames;
 mod law;
 mod line;
 mod parse;

@@ -12,6 +12,16 @@ pub enum Line {
         peer: Text,
         payload: Items<u8>,
     },
+    Tcp {
+        input: Text,
+        number: u32,
+        peer: Text,
+        payload: Items<u8>,
+    },
+    End {
+        input: Text,
+        number: u32,
+    },
     Claim {
         worker: u32,
         limit: u32,

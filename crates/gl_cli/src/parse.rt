@@ -2,6 +2,7 @@ ghost use Rattle.std.specs.Prelude.{length, true, IfOk, ◌≡◌, ◌∷◌, []
 ghost use Rattle.std.specs.List.{list_all};
 ghost use Rattle.std.specs.Str.{bytes_eq};
 ghost use Rattle.std.specs.Int.{is_in_range};
+ghost use Rattle.percent_encoding.specs.Percent.{percent_decode};
 ghost use Rattle.gl_cli.specs.Script as script;
 ghost use Rattle.gl_cli.specs.Parsing.{rest_words, IsFirstAt};
 
@@ -127,15 +128,104 @@ fn udp_line(alloc: Global, rest: Option<&[u8]>) -> Result<Option<Line>, AllocErr
                 }
                 let input = name_text(alloc, input)?;
                 let peer = name_text(alloc, peer)?;
-                let mut bytes = Vec::with_capacity(alloc, payload.len())?;
-                percent_decode(payload).append_to(&mut bytes)?;
+                let payload = payload_of(alloc, payload)?;
                 Ok(Some(Line::Udp {
                     input,
                     peer,
-                    payload: Items::from_vec(bytes),
+                    payload,
                 }))
             }
         },
+    }
+}
+
+/// The number of a connection that a word writes.
+fn connection_in(word: &[u8]) -> Option<u32>
+    ensures { result ≡ script.connection_in word.now }
+{
+    match number_in(word, 0, 4_294_967_295) {
+        Some(number) => Some(number as u32),
+        None => None,
+    }
+}
+
+/// The payload that the last words of a line write.
+fn payload_of(alloc: Global, text: &[u8]) -> Result<Items<u8>, AllocError>
+    ensures { IfOk result (λ payload. payload ≡ percent_decode text.now) }
+{
+    let mut bytes = Vec::with_capacity(alloc, text.len())?;
+    percent_decode(text).append_to(&mut bytes)?;
+    Ok(Items::from_vec(bytes))
+}
+
+/// What the words behind `tcp` and the name of an input ask for.
+fn tcp_line_of(alloc: Global, input: &[u8], rest: &[u8]) -> Result<Option<Line>, AllocError>
+    ensures { IfOk result (λ line. line ≡ script.tcp_line (input.now ∷ script.words_of rest.now)) }
+{
+    match two_words(rest) {
+        None => Ok(None),
+        Some((number, peer, payload)) => {
+            if !is_name(input, 64) || !is_name(peer, 255) {
+                return Ok(None);
+            }
+            match connection_in(number) {
+                None => Ok(None),
+                Some(number) => Ok(Some(Line::Tcp {
+                    input: name_text(alloc, input)?,
+                    number,
+                    peer: name_text(alloc, peer)?,
+                    payload: payload_of(alloc, payload)?,
+                })),
+            }
+        }
+    }
+}
+
+/// What the words behind `tcp` ask for.
+fn tcp_line(alloc: Global, rest: Option<&[u8]>) -> Result<Option<Line>, AllocError>
+    ensures { IfOk result (λ line. line ≡ script.tcp_line (rest_words rest.entry)) }
+{
+    match rest {
+        None => Ok(None),
+        Some(text) => match split_word(text) {
+            (_, None) => Ok(None),
+            (input, Some(more)) => tcp_line_of(alloc, input, more),
+        },
+    }
+}
+
+/// What the words behind `end` ask for.
+fn end_line(alloc: Global, rest: Option<&[u8]>) -> Result<Option<Line>, AllocError>
+    ensures { IfOk result (λ line. line ≡ script.end_line (rest_words rest.entry)) }
+{
+    match rest {
+        None => Ok(None),
+        Some(text) => match split_word(text) {
+            (_, None) => Ok(None),
+            (input, Some(more)) => end_line_of(alloc, input, more),
+        },
+    }
+}
+
+/// What the words behind `end` and the name of an input ask for.
+fn end_line_of(alloc: Global, input: &[u8], rest: &[u8]) -> Result<Option<Line>, AllocError>
+    ensures { IfOk result (λ line. line ≡ script.end_line (input.now ∷ script.words_of rest.now)) }
+{
+    let (word, more) = split_word(rest);
+    match more {
+        Some(_) => Ok(None),
+        None => {
+            if !is_name(input, 64) {
+                return Ok(None);
+            }
+            match connection_in(word) {
+                None => Ok(None),
+                Some(number) => Ok(Some(Line::End {
+                    input: name_text(alloc, input)?,
+                    number,
+                })),
+            }
+        }
     }
 }
 
@@ -189,6 +279,12 @@ pub fn line_of(alloc: Global, text: &[u8]) -> Result<Option<Line>, AllocError>
     }
     if is_same(word, b"udp") {
         return udp_line(alloc, rest);
+    }
+    if is_same(word, b"tcp") {
+        return tcp_line(alloc, rest);
+    }
+    if is_same(word, b"end") {
+        return end_line(alloc, rest);
     }
     if is_same(word, b"claim") {
         return Ok(claim_line(rest));
@@ -244,6 +340,23 @@ mod tests {
                 peer.as_str(),
                 payload.as_slice()
             ),
+            Some(
+                Line::Tcp {
+                    input,
+                    number,
+                    peer,
+                    payload,
+                },
+            ) => format!(in alloc;
+                "tcp {} {number} {} {:?}",
+                input.as_str(),
+                peer.as_str(),
+                payload.as_slice()
+            ),
+            Some(Line::End { input, number }) => format!(in alloc;
+                "end {} {number}",
+                input.as_str()
+            ),
             Some(Line::Claim { worker, limit }) => format!(in alloc; "claim {worker} {limit}"),
             Some(Line::Finish { worker }) => format!(in alloc; "finish {worker}"),
             Some(Line::Listing) => format!(in alloc; "list"),
@@ -276,6 +389,17 @@ mod tests {
             ("udp raw p x\r", "udp raw p [120, 13]"),
             ("udp  p x", "none"),
             ("udp raw \u{fc} x", "none"),
+            ("tcp raw 0 p x", "tcp raw 0 p [120]"),
+            ("tcp raw 4294967295 p ", "tcp raw 4294967295 p []"),
+            ("tcp raw 4294967296 p x", "none"),
+            ("tcp raw 01 p x", "none"),
+            ("tcp raw 1 p", "none"),
+            ("tcp raw 1  x", "none"),
+            ("tcp raw 1 p a  b%0A", "tcp raw 1 p [97, 32, 32, 98, 10]"),
+            ("end raw 7", "end raw 7"),
+            ("end raw", "none"),
+            ("end raw 7 ", "none"),
+            ("end raw 4294967296", "none"),
             ("claim 0 256", "claim 0 256"),
             ("claim 0 257", "none"),
             ("claim 0 0", "none"),

@@ -14,13 +14,20 @@ use gl_fields::{Cause, Field, Outcome, Value};
 use gl_node::{Arrival, Claimed, Finished};
 use std::alloc::{AllocError, Global};
 
-/// The answer line of a payload.
+/// The answer line of an arrival.
 pub fn arrival_text(alloc: Global, arrival: &Arrival) -> Result<String, AllocError>
     ensures { IfOk result (λ text. string_bytes text ≡ words_text (arrival_words arrival.now)) }
 {
     match arrival {
         Arrival::Journalled { position } => format!(in alloc; "journalled {position}\n"),
         Arrival::Empty => format!(in alloc; "empty\n"),
+        Arrival::Held => format!(in alloc; "held\n"),
+        Arrival::Repeat => format!(in alloc; "repeat\n"),
+        Arrival::BadChunk => format!(in alloc; "bad-chunk\n"),
+        Arrival::CountMismatch { kept, given } => format!(in alloc;
+            "count-mismatch {kept} {given}\n"
+        ),
+        Arrival::ChunkTableFull => format!(in alloc; "chunk-table-full\n"),
         Arrival::FrameTooLong => format!(in alloc; "frame-too-long\n"),
         Arrival::UnknownInput => format!(in alloc; "unknown-input\n"),
         Arrival::JournalFull { bytes, limit } => format!(in alloc;

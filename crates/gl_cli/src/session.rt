@@ -14,6 +14,7 @@ ghost use Rattle.gl_cli.specs.Script.{moment_in};
 ghost use Rattle.gl_cli.specs.Statuses.{IsRunStatus, source_status_of};
 
 use crate::answering::{answer_line, write_done};
+use crate::connections::Connections;
 use crate::desk::Desk;
 use crate::line::Line;
 use crate::parse::line_of;
@@ -78,6 +79,7 @@ pub fn session<D: Disk, S: Source, K: Sink>(
         IfSome (S.left source.old) (λ script. (image : Image) → (D.state disk.new).may_leave image → ShownAt base script (K.contents sink.old) (K.contents sink.new) image) }
 {
     let mut reader = LineReader::new(alloc, SCRIPT_LIMIT);
+    let mut connections = Connections::new(alloc);
     let mut moment = 0;
     let mut number: u64 = 0;
     law_images_show_the_state(&desk.node, disk);
@@ -92,10 +94,20 @@ pub fn session<D: Disk, S: Source, K: Sink>(
                 match line_of(alloc, text.as_slice()) {
                     Err(_) => return Status::OutOfMemory,
                     Ok(None) => return Status::BadScript { line: number },
-                    Ok(Some(line)) => match answer_line(alloc, desk, disk, sink, moment, &line) {
-                        Err(status) => return status,
-                        Ok(()) => moment = moment_with(moment, &line),
-                    },
+                    Ok(Some(line)) => {
+                        match answer_line(
+                            alloc,
+                            desk,
+                            &mut connections,
+                            disk,
+                            sink,
+                            moment,
+                            &line,
+                        ) {
+                            Err(status) => return status,
+                            Ok(()) => moment = moment_with(moment, &line),
+                        }
+                    }
                 }
             }
         }

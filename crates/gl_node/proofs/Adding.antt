@@ -143,6 +143,7 @@ module _ (node : Node) (s : State) (entry : Entry) (keeps : Keeps node s) (follo
         entries = pushed ∙ ap (λ (es : List Entry). es ++ entry ∷ []) keeps.entries;
         outcomes_are = keeps.outcomes_are ∙ sym same;
         config = keeps.config ∙ sym (config_stays s.journal entry follows_here);
+        tables = keeps.tables;
         lawful = lawful_more s.journal entry keeps.lawful follows_here;
         bounded = subst (λ (os : List Outcome). All IsOutcome os) (sym same) keeps.bounded;
         committed = keeps.committed ∙ ap (λ (os : List Outcome). length os) (sym same);
@@ -171,6 +172,7 @@ keeps_roomy node s entries keeps is = record {
   entries = is ∙ keeps.entries;
   outcomes_are = keeps.outcomes_are;
   config = keeps.config;
+  tables = keeps.tables;
   lawful = keeps.lawful;
   bounded = keeps.bounded;
   committed = keeps.committed;

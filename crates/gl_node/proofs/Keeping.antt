@@ -48,6 +48,7 @@ keeps_claimed node s claim held waiting k held_is waiting_is room first some few
   entries = k.entries;
   outcomes_are = k.outcomes_are;
   config = k.config;
+  tables = k.tables;
   lawful = k.lawful;
   bounded = k.bounded;
   committed = k.committed;
@@ -74,6 +75,7 @@ keeps_came node s i claim work held waiting k there is_work held_is waiting_is m
   entries = k.entries;
   outcomes_are = k.outcomes_are;
   config = k.config;
+  tables = k.tables;
   lawful = k.lawful;
   bounded = k.bounded;
   committed = k.committed;

@@ -19,3 +19,5 @@ pub mod Logs
 pub mod TakenUp
 pub mod Reopened
 pub mod Openings
+pub mod Tables
+pub mod Datagrams

@@ -7,7 +7,7 @@ use Rattle.gl_fields.specs.declared.entry.Entry.{Entry}
 use Rattle.gl_fields.specs.declared.entry.Entry.TheVariants.{Admin, Message}
 use Rattle.gl_fields.specs.declared.entry.Outcome.{Outcome}
 use Rattle.gl_node.specs.Decoding.{outcome_of, outcomes_to, outcomes_after}
-use Rattle.gl_node.specs.State.{Base, State, Event, Added, Claimed, CameIn, GivenUp, Committed, opened, happened, state_after, outcomes, commit_count}
+use Rattle.gl_node.specs.State.{Base, State, Event, Received, Added, Claimed, CameIn, GivenUp, Committed, opened, happened, state_after, outcomes, commit_count}
 
 -- what happens later leaves an entry's outcome alone
 pub outcome_of-later : (journal more : List Entry) (entry : Entry) → outcome_of (journal ++ more) entry ≡ outcome_of journal entry
@@ -27,6 +27,7 @@ pub record Grows (old new : State) : Type 0 where
   pub journal_is : new.journal ≡ old.journal ++ more
 
 pub happened-grows : (s : State) (event : Event) → Grows s (happened s event)
+happened-grows s (Received datagram) = record { base_is = refl; more = []; journal_is = sym (append-nil s.journal) }
 happened-grows s (Added entry) = record { base_is = refl; more = entry ∷ []; journal_is = refl }
 happened-grows s (Claimed claim) = record { base_is = refl; more = []; journal_is = sym (append-nil s.journal) }
 happened-grows s (CameIn claim) = record { base_is = refl; more = []; journal_is = sym (append-nil s.journal) }

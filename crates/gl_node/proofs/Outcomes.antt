@@ -133,6 +133,7 @@ module _ (node : Node) (s : State) (i : ℕ) (work : Work) (k : Keeps node s) (t
     entries = k.entries;
     outcomes_are = all_is ∙ ap (λ os. os ++ work.outcomes) k.outcomes_are ∙ sym more_outcomes;
     config = k.config;
+    tables = k.tables;
     lawful = k.lawful;
     bounded = subst (λ os. All IsOutcome os) (sym more_outcomes) (All-append IsOutcome (outcomes s) work.outcomes k.bounded work.bounded);
     committed = omega (arith, count_committed s node.next k.tiled (mark_of work.range), k.committed, ap (λ os. length os) more_outcomes, length-append (outcomes s) work.outcomes, outcomes_len);
@@ -184,6 +185,7 @@ keeps_still node s all index k all_is index_is = record {
   entries = k.entries;
   outcomes_are = all_is ∙ k.outcomes_are;
   config = k.config;
+  tables = k.tables;
   lawful = k.lawful;
   bounded = k.bounded;
   committed = k.committed;

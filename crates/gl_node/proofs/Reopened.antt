@@ -24,7 +24,7 @@ use Rattle.gl_node.specs.declared.work.Work.{Work}
 use Rattle.gl_node.specs.Claims.{index_size, mark_of, range_of}
 use Rattle.gl_node.specs.Configuration.{initial_config}
 use Rattle.gl_node.specs.Decoding.{outcome_of}
-use Rattle.gl_node.specs.Node.{AreTiled, Keeps, KeepsLog, lies_between, times_taken}
+use Rattle.gl_node.specs.Node.{AreTables, AreTiled, Keeps, KeepsLog, lies_between, times_taken}
 use Rattle.gl_node.specs.Opening.{BothStand, IsOf}
 use Rattle.gl_node.specs.Standing.{EndsThere, IsLawful, LogShows, RecordsSize, Shows, StandsFor, base_of, log_bytes, segment_or}
 use Rattle.gl_node.specs.State.{Base, commit_count, entry_batch, opened, outcomes}
@@ -64,16 +64,17 @@ log_now view log records bytes limit segment more keeps none = record {
   segment_is = keeps.segment_is;
 }
 
-pub keeps_opened : (node : Node) (base : Base) → node.entries.items ≡ base.journal → node.outcomes.items ≡ base.found → node.config ≡ initial_config
+pub keeps_opened : (node : Node) (base : Base) → node.entries.items ≡ base.journal → node.outcomes.items ≡ base.found → node.config ≡ initial_config → AreTables node.tables.items initial_config.inputs []
     → IsLawful base.journal → All IsOutcome base.found → length base.found ≤ length base.journal
     → node.held.items ≡ [] → node.waiting.items ≡ [] → node.next ≡ length base.found
     → KeepsLog node.journal Journal (length base.journal) base.journal_bytes base.journal_limit base.journal_segment
     → KeepsLog node.index Index (length base.found) base.index_bytes base.index_limit base.index_segment
     → node.journal.stopped ≡ false → node.index.stopped ≡ false → Keeps node (opened base)
-keeps_opened node base entries_are found_are config_is lawful bounded few no_held no_waiting next_is journal_is index_is journal_runs index_runs = record {
+keeps_opened node base entries_are found_are config_is tables_are lawful bounded few no_held no_waiting next_is journal_is index_is journal_runs index_runs = record {
   entries = entries_are;
   outcomes_are = found_are ∙ sym (outcomes_opened base);
   config = config_is ∙ sym (first_config base.journal lawful);
+  tables = tables_are;
   lawful = lawful;
   bounded = subst (λ (l : List Outcome). All IsOutcome l) (sym (outcomes_opened base)) bounded;
   committed = omega (arith, ap (λ (l : List Outcome). length l) (outcomes_opened base));
@@ -286,11 +287,11 @@ module _ (options : Options) (v w : OpeningView) (entries : List Entry) (found :
         options.index_limit (segment_or options.segment f.index.segment)) index_once.1 f.index.keeps))
 
     -- a node with both logs keeps what is shown
-    pub keeps_shown : (node : Node) → node.entries.items ≡ entries → node.outcomes.items ≡ found → node.config ≡ initial_config
+    pub keeps_shown : (node : Node) → node.entries.items ≡ entries → node.outcomes.items ≡ found → node.config ≡ initial_config → AreTables node.tables.items initial_config.inputs []
         → node.held.items ≡ [] → node.waiting.items ≡ [] → node.next ≡ length found → node.journal ≡ finished v → node.index ≡ finished w
         → (finished v).stopped ≡ false → (finished w).stopped ≡ false → Keeps node (opened (base_of options image journal outs shown))
-    keeps_shown node entries_are found_are config_is no_held no_waiting next_is journal_is index_is journal_runs index_runs =
-        keeps_opened node (base_of options image journal outs shown) (entries_are ∙ one_journal) (found_are ∙ one_found) config_is
+    keeps_shown node entries_are found_are config_is tables_are no_held no_waiting next_is journal_is index_is journal_runs index_runs =
+        keeps_opened node (base_of options image journal outs shown) (entries_are ∙ one_journal) (found_are ∙ one_found) config_is tables_are
         shown.lawful shown.bounded shown.each_has_entry no_held no_waiting (next_is ∙ ap (λ (l : List Outcome). length l) one_found)
         (subst (λ (x : GateView). KeepsLog x Journal (length journal) (log_bytes Journal (segment_or options.segment shown.journal_segment) shown.journal_batches)
         options.journal_limit (segment_or options.segment shown.journal_segment)) (sym journal_is) journal_keeps)

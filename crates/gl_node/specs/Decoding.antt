@@ -14,8 +14,12 @@ use Rattle.gl_fields.specs.declared.entry.Cause.TheVariants.{TooManyFields, TooL
 use Rattle.gl_fields.specs.declared.entry.Outcome.{Outcome}
 use Rattle.gl_fields.specs.declared.entry.Outcome.TheVariants.{Applied, Stored, Undecodable}
 use Rattle.gl_fields.specs.Fields.{with_field, refusal_of}
+use Rattle.gl_fields.specs.declared.input_kind.InputKind.{InputKind}
+use Rattle.gl_fields.specs.declared.input_kind.InputKind.TheVariants.{Raw, Gelf, Syslog}
+use Rattle.gl_gelf.specs.Decoding.{gelf_fields}
+use Rattle.gl_syslog.specs.Decoding.{decoded_syslog}
 use Rattle.gl_node.specs.declared.config.Config.{Config}
-use Rattle.gl_node.specs.Configuration.{config_at}
+use Rattle.gl_node.specs.Configuration.{config_at, kind_of}
 
 -- a field put into a map, or the cause that a refusal gives
 abbrev pub put_or_cause : Field → List Field → Option FieldRefusal → Result (List Field) Cause
@@ -39,9 +43,15 @@ raw_fields m =
     ∷ record { name = codes "timestamp"; value = Whole (pos m.moment) }
     ∷ []
 
--- the fields of a message, by the kind of its input; there are raw inputs alone
+-- the fields of a message by the kind of its input, or why it gives none; each message of a lawful journal has an input
+abbrev pub decoded_as : Option InputKind → Payload → Result (List Field) Cause
+decoded_as None m = map_with (raw_fields m)
+decoded_as (Some Raw) m = map_with (raw_fields m)
+decoded_as (Some Gelf) m = gelf_fields m.moment m.peer m.bytes
+decoded_as (Some Syslog) m = decoded_syslog m.moment m.peer m.bytes
+
 abbrev pub decoded : Config → Payload → Result (List Field) Cause
-decoded config m = map_with (raw_fields m)
+decoded config m = decoded_as (kind_of config m.input) m
 
 -- the number of the default stream
 abbrev pub default_stream : ℕ

@@ -1,4 +1,5 @@
 pub mod Arrivals
+pub mod Arriving
 pub mod Bounded
 pub mod Calls
 pub mod Chains

@@ -1,5 +1,5 @@
 -- What a node keeps of a state, and what it stands on.
-use Rattle.std.specs.Prelude.{◌≡◌, ℕ, ◌+◌, ◌<◌, ◌≤◌, Bool, List, length, map, Option, Some, None, false, ◌&&◌, nat_le, nat_lt, ◌==◌, if◌then◌else◌, count_by, vec_capacity}
+use Rattle.std.specs.Prelude.{◌≡◌, ℕ, ◌+◌, ◌<◌, ◌≤◌, Bool, List, length, map, Option, Some, None, false, ◌&&◌, nat_le, nat_lt, ◌==◌, if◌then◌else◌, count_by, slice_get, vec_capacity}
 use Rattle.std.specs.List.{All}
 use Rattle.gl_outside.specs.Disk.{DiskState}
 use Rattle.gl_gatelog.specs.declared.kind.Log.{Log}
@@ -13,13 +13,17 @@ use Rattle.gl_fields.specs.declared.entry.Outcome.{Outcome}
 use Rattle.gl_fields.specs.Entries.{entry_bytes}
 use Rattle.gl_fields.specs.Outcomes.{outcome_bytes}
 use Rattle.gl_fields.specs.Bounds.{IsOutcome}
+use Rattle.gl_gelf.specs.declared.chunks.Chunks.{Chunks}
+use Rattle.gl_gelf.specs.Chunks.{StandsFor}
+use Rattle.gl_node.specs.declared.config.Input.{Input}
 use Rattle.gl_node.specs.declared.mark.Mark.{Mark}
 use Rattle.gl_node.specs.declared.mark.Claim.{Claim}
 use Rattle.gl_node.specs.declared.work.Work.{Work}
 use Rattle.gl_node.specs.declared.node.Node.{Node}
 use Rattle.gl_node.specs.Configuration.{config_after}
 use Rattle.gl_node.specs.Standing.{IsLawful}
-use Rattle.gl_node.specs.State.{State, outcomes, journal_size, commit_count}
+use Rattle.gl_node.specs.Arrivals.{sent_to}
+use Rattle.gl_node.specs.State.{Datagram, State, outcomes, journal_size, commit_count}
 use Rattle.gl_node.specs.Claims.{index_size, lies_in, range_of, mark_of}
 
 -- no disk fault has stopped it; or one did, when the disk's count came to this number
@@ -62,11 +66,17 @@ pub record AreTiled (s : State) (next : ℕ) : Type 0 where
   pub waiting_sized : All IsSized s.waiting
   pub workers : (worker : ℕ) → count_by (λ (c : Claim). c.worker == worker) s.held ≤ 1
 
+-- There is a chunk table for each input, in their order, which stands for the datagrams that came to it.
+pub record AreTables (tables : List Chunks) (inputs : List Input) (datagrams : List Datagram) : Type 0 where
+  pub each : length tables ≡ length inputs
+  pub stand : (k : ℕ) (table : Chunks) (input : Input) → slice_get tables k ≡ Some table → slice_get inputs k ≡ Some input → StandsFor table (sent_to input.name datagrams)
+
 -- What a node keeps of a state, whatever its disk tells.
 pub record Keeps (node : Node) (s : State) : Type 0 where
   pub entries : node.entries.items ≡ s.journal
   pub outcomes_are : node.outcomes.items ≡ outcomes s
   pub config : node.config ≡ config_after s.journal
+  pub tables : AreTables node.tables.items (config_after s.journal).inputs s.datagrams
   pub lawful : IsLawful s.journal
   pub bounded : All IsOutcome (outcomes s)
   pub committed : commit_count s ≡ length (outcomes s)

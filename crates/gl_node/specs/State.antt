@@ -1,4 +1,4 @@
--- The state of a node: one list of entries, and the ranges of positions that are claimed, came in and are committed.
+-- The state of a node: one list of entries, the datagrams that may be chunks, and the ranges of positions that are claimed, came in and are committed.
 use Rattle.std.specs.Prelude.{ℕ, ◌+◌, not, List, [], ◌∷◌, ◌++◌, length, drop, sum_by, filter, ◌==◌}
 use Rattle.std.specs.List.{fold}
 use Rattle.gl_fields.specs.declared.entry.Entry.{Entry}
@@ -21,9 +21,17 @@ pub record Base : Type 0 where
   pub journal_segment : ℕ
   pub index_segment : ℕ
 
+-- a datagram that came to an input of kind gelf, whose messages may come in chunks
+pub record Datagram : Type 0 where
+  pub input : List ℕ
+  pub moment : ℕ
+  pub bytes : List ℕ
+
 pub record State : Type 0 where
   pub base : Base
   pub journal : List Entry
+  -- the datagrams that came since opening to inputs of kind gelf, in order
+  pub datagrams : List Datagram
   -- what is claimed, in the order of the claims
   pub held : List Claim
   -- what came in and isn't committed, in the order in which it came
@@ -33,6 +41,7 @@ pub record State : Type 0 where
 
 -- what can happen to a node
 pub data Event : Type 0 where
+  Received : (datagram : Datagram) → Event
   Added : (entry : Entry) → Event
   Claimed : (claim : Claim) → Event
   CameIn : (claim : Claim) → Event
@@ -40,7 +49,7 @@ pub data Event : Type 0 where
   Committed : (mark : Mark) → Event
 
 abbrev pub opened : Base → State
-opened base = record { base = base; journal = base.journal; held = []; waiting = []; committed = [] }
+opened base = record { base = base; journal = base.journal; datagrams = []; held = []; waiting = []; committed = [] }
 
 -- the claims of other workers
 abbrev pub without : ℕ → List Claim → List Claim
@@ -51,6 +60,7 @@ abbrev pub except : Mark → List Mark → List Mark
 except mark marks = filter (λ other. not (other.first == mark.first)) marks
 
 abbrev pub happened : State → Event → State
+happened s (Received datagram) = record s { datagrams = s.datagrams ++ datagram ∷ [] }
 happened s (Added entry) = record s { journal = s.journal ++ entry ∷ [] }
 happened s (Claimed claim) = record s { held = s.held ++ claim ∷ [] }
 happened s (CameIn claim) = record s { held = without claim.worker s.held; waiting = s.waiting ++ claim.mark ∷ [] }

@@ -9,7 +9,17 @@ pub enum Arrival {
     Journalled { position: u64 },
     /// It has no bytes.
     Empty,
-    /// It has more than 1,048,576 bytes.
+    /// It is a chunk of a message that isn't whole yet, and is kept.
+    Held,
+    /// This chunk came before, or its message was completed or given up at most 5,000 milliseconds ago. Nothing changed.
+    Repeat,
+    /// It begins as a chunk and is none: it has less than 12 bytes, a count of 0 or above 128, or a number not below its count.
+    BadChunk,
+    /// It is a chunk of a message whose first chunk gave `kept` as its count, and gives `given`. Nothing changed.
+    CountMismatch { kept: u8, given: u8 },
+    /// It is the first chunk of a message while 1,024 others aren't whole. Nothing changed.
+    ChunkTableFull,
+    /// It has more than 1,048,576 bytes, or so have the chunks of its message; the message is then given up.
     FrameTooLong,
     /// No input has this name.
     UnknownInput,

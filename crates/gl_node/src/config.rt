@@ -1,16 +1,53 @@
 // What messages are processed by.
 ghost use Rattle.std.specs.Prelude.{◌≡◌, ◌↔◌, IfOk, IsTrue};
-ghost use Rattle.gl_node.specs.Configuration.{initial_config, is_input};
+ghost use Rattle.std.specs.List.{position};
+ghost use Rattle.std.specs.Str.{bytes_eq};
+ghost use Rattle.gl_node.specs.Configuration.{initial_config, input_named, is_input, kind_of};
 
 use gl_base::{Items, Text};
+use gl_fields::InputKind;
 use std::alloc::{AllocError, Global};
 
-/// A configuration of the server: its version, which is the number of commands that made it, and the
-/// names of its inputs. There are no commands yet, so the version is 0 and the one input is `raw`.
+/// An input: the name by which senders reach it, and what decodes its payloads.
+#[derive(Debug, Drop)]
+pub struct Input {
+    pub name: Text,
+    pub kind: InputKind,
+}
+
+/// A configuration of the server: its version, which is the number of commands that made it, and its
+/// inputs, no two of one name. There are no commands yet, so the version is 0 and the inputs are `raw`,
+/// `gelf` and `syslog`.
 #[derive(Debug, Drop)]
 pub struct Config {
     pub version: u64,
-    pub inputs: Items<Text>,
+    pub inputs: Items<Input>,
+}
+
+impl Input {
+    fn named(alloc: Global, name: &str, kind: InputKind) -> Result<Input, AllocError>
+        ensures { IfOk result (λ input. input ≡ input_named name.now kind) }
+    {
+        Ok(Input {
+            name: Text::from_str(alloc, name)?,
+            kind,
+        })
+    }
+
+    fn copy(&self) -> Result<Input, AllocError>
+        ensures { IfOk result (λ input. input ≡ self.now) }
+    {
+        Ok(Input {
+            name: self.name.copy()?,
+            kind: self.kind,
+        })
+    }
+
+    fn same(&self, other: &Input) -> bool
+        ensures { IsTrue result ↔ (self.now ≡ other.now) }
+    {
+        self.kind == other.kind && self.name.same(&other.name)
+    }
 }
 
 impl Config {
@@ -18,19 +55,39 @@ impl Config {
     pub fn initial(alloc: Global) -> Result<Config, AllocError>
         ensures { IfOk result (λ config. config ≡ initial_config) }
     {
-        let mut inputs = Items::new(alloc);
-        inputs.push(Text::from_str(alloc, "raw")?)?;
+        let mut inputs = Items::with_capacity(alloc, 3)?;
+        inputs.push(Input::named(alloc, "raw", InputKind::Raw)?)?;
+        inputs.push(Input::named(alloc, "gelf", InputKind::Gelf)?)?;
+        inputs.push(Input::named(alloc, "syslog", InputKind::Syslog)?)?;
         Ok(Config { version: 0, inputs })
+    }
+
+    /// Where the input with this name stands among the inputs.
+    pub(crate) fn place_of(&self, input: &str) -> Option<usize>
+        ensures { result ≡ position (λ i. bytes_eq input.now i.name) self.now.inputs }
+    {
+        self.inputs
+            .as_slice()
+            .iter()
+            .position(|known| input.as_bytes() == known.name.as_str().as_bytes())
+    }
+
+    /// What decodes the payloads of the input with this name; `None` where no input has it.
+    pub fn kind_of(&self, input: &str) -> Option<InputKind>
+        ensures { result ≡ kind_of self.now input.now }
+    {
+        self.inputs
+            .as_slice()
+            .iter()
+            .find(|known| input.as_bytes() == known.name.as_str().as_bytes())
+            .map(|known| known.kind)
     }
 
     /// Whether an input has this name.
     pub fn knows(&self, input: &str) -> bool
         ensures { result ≡ is_input self.now input.now }
     {
-        self.inputs
-            .as_slice()
-            .iter()
-            .any(|name| input.as_bytes() == name.as_str().as_bytes())
+        self.kind_of(input).is_some()
     }
 
     /// An equal configuration of its own.
@@ -38,8 +95,8 @@ impl Config {
         ensures { IfOk result (λ config. config ≡ self.now) }
     {
         let mut inputs = Items::new(alloc);
-        for name in self.inputs.as_slice() {
-            inputs.push(name.copy()?)?;
+        for input in self.inputs.as_slice() {
+            inputs.push(input.copy()?)?;
         }
         Ok(Config {
             version: self.version,
@@ -51,19 +108,20 @@ impl Config {
     pub fn same(&self, other: &Config) -> bool
         ensures { IsTrue result ↔ (self.now ≡ other.now) }
     {
-        self.version == other.version && same_names(self.inputs.as_slice(), other.inputs.as_slice())
+        self.version == other.version
+            && same_inputs(self.inputs.as_slice(), other.inputs.as_slice())
     }
 }
 
-// Whether both have the same names, in the same order.
-fn same_names(names: &[Text], others: &[Text]) -> bool
-    ensures { IsTrue result ↔ (names.now ≡ others.now) }
+// Whether both have the same inputs, in the same order.
+fn same_inputs(inputs: &[Input], others: &[Input]) -> bool
+    ensures { IsTrue result ↔ (inputs.now ≡ others.now) }
 {
-    if names.len() != others.len() {
+    if inputs.len() != others.len() {
         return false;
     }
-    for (index, name) in names.iter().enumerate() {
-        if !name.same(&others[index]) {
+    for (index, input) in inputs.iter().enumerate() {
+        if !input.same(&others[index]) {
             return false;
         }
     }

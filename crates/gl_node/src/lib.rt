@@ -5,11 +5,17 @@
 //! the events that belong to the call (`specs/State`, `specs/Arrivals`, `specs/Claims`), whatever its
 //! disk tells. Where the disk tells its content, a node *stands on* it (`NodeOn`): then each image
 //! that a crash may leave shows exactly what the node keeps (`law_images_show_the_state`).
+//!
+//! A datagram of an input of kind gelf goes through the input's chunk table, which answers by all datagrams
+//! that it was given since the opening; a message that it makes whole is a payload. A payload is decoded by
+//! the kind of its input, when its range is staged (`specs/Decoding`).
+//!
 //! However the calls come one after another, the outcomes are those that one thread gets by staging
 //! the journal in order (`law_outcomes_of_one_thread`).
 #![tactic(auto)]
 
 mod answer;
+mod arriving;
 mod claiming;
 mod committing;
 mod config;
@@ -25,7 +31,7 @@ mod staging;
 mod work;
 
 pub use answer::{Arrival, Claimed, Finished};
-pub use config::Config;
+pub use config::{Config, Input};
 pub use fault::{NodeFault, OpenFault};
 pub use gl_gatelog::Log;
 pub use law::{law_longest_chain_is_committed, law_one_store, law_outcomes_of_one_thread};

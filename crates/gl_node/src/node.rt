@@ -7,17 +7,14 @@ ghost use Rattle.gl_gatelog.specs.declared.kind.Log.{Log};
 ghost use Rattle.gl_fields.specs.declared.entry.Entry.{Entry};
 ghost use Rattle.gl_fields.specs.declared.entry.Outcome.{Outcome};
 ghost use Rattle.gl_fields.specs.Entries.{version_after};
-ghost use Rattle.gl_node.specs.Arrivals.{arrival_of, arrival_events};
 ghost use Rattle.gl_node.specs.Calls.{HasNodeCause};
 ghost use Rattle.gl_node.specs.Moments.{LeftBy, LeftSince};
-ghost use Rattle.gl_node.specs.Node.{IsRunning, IsStoppedAt, Keeps, NodeOn, NodeReady};
+ghost use Rattle.gl_node.specs.Node.{AreTables, IsRunning, Keeps, NodeOn, NodeReady};
 ghost use Rattle.gl_node.specs.Damage.{IsDamaged};
 ghost use Rattle.gl_node.specs.Standing.{AreOptions, HasLimits, IsStore, Shows, StandsFor, base_of};
-ghost use Rattle.gl_node.specs.State.{Base, State, commit_count, opened, outcomes, state_after};
+ghost use Rattle.gl_node.specs.State.{Base, State, Received, commit_count, happened, opened, outcomes, state_after};
 
-use crate::answer::{Arrival, Claimed, Finished};
-use crate::config::Config;
-use crate::entering::message_of;
+use crate::config::{Config, Input};
 use crate::fault::{NodeFault, OpenFault};
 use crate::mark::Claim;
 use crate::reading::{read_index, read_journal};
@@ -25,11 +22,9 @@ use crate::resuming::take_up;
 use crate::work::Work;
 use gl_fields::{Entry, Outcome};
 use gl_gatelog::{GateLog, Log};
+use gl_gelf::Chunks;
 use gl_outside::Disk;
-use std::alloc::Global;
-
-// How many bytes a payload has at most.
-const MAX_PAYLOAD: usize = 1_048_576;
+use std::alloc::{AllocError, Global};
 
 /// The sizes of a store.
 #[derive(Clone, Copy, Debug, PartialEq, Eq)]
@@ -50,6 +45,8 @@ pub struct Node {
     pub(crate) journal: GateLog,
     pub(crate) index: GateLog,
     pub(crate) config: Config,
+    /// A chunk table for each input of the configuration, in their order.
+    pub(crate) tables: Vec<Chunks>,
     pub(crate) entries: Vec<Entry>,
     pub(crate) outcomes: Vec<Outcome>,
     pub(crate) held: Vec<Claim>,
@@ -94,6 +91,7 @@ impl Node {
         ensures tells { (D.state disk.new).tells ≡ (D.state disk.old).tells }
     {
         let config = Config::initial(alloc)?;
+        let tables = new_tables(alloc, config.inputs.as_slice())?;
         let (journal, entries) = read_journal(
             alloc,
             disk,
@@ -115,6 +113,7 @@ impl Node {
             journal,
             index,
             config,
+            tables,
             entries,
             outcomes,
             held: Vec::new(alloc),
@@ -122,56 +121,6 @@ impl Node {
             next,
             stopped: None,
         })
-    }
-
-    /// Journals a payload that came as one datagram: it is an entry, and on the disk, once this
-    /// answers `Journalled`. The moment is in milliseconds since 1970, at most 253,402,300,799,999;
-    /// the peer has 1 to 255 bytes.
-    ///
-    /// The refusals come in this order: `UnknownInput`, `Empty`, `FrameTooLong`, `JournalFull`. A
-    /// refusal, and want of memory, change nothing.
-    pub fn datagram<D: Disk>(
-        &mut self,
-        disk: &mut D,
-        moment: u64,
-        input: &str,
-        peer: &str,
-        bytes: &[u8],
-    ) -> Result<Arrival, NodeFault>
-        requires moment { moment ≤ 253402300799999 }
-        requires some_peer { 0 < length peer.now }
-        requires short_peer { length peer.now ≤ 255 }
-        requires keeps { (s : State) × Keeps self.old s }
-        requires ready { Tells (D.state disk.old) → IsRunning self.old → NodeReady self.old (D.state disk.old) }
-        // Whatever the disk tells: by each state that the node keeps.
-        ensures answer { IfOk result (λ arrival. (s : State) → Keeps self.old s → (arrival ≡ arrival_of s moment input.now peer.now bytes.now)
-            × Keeps self.new (state_after s (arrival_events s moment input.now peer.now bytes.now))) }
-        ensures refused { OnErr result ((s : State) → Keeps self.old s → Keeps self.new s) }
-        // Once it answers, the entry is in each image that a crash may leave.
-        ensures ready { Tells (D.state disk.old) → IsRunning self.new → NodeReady self.new (D.state disk.new) }
-        ensures stands { Tells (D.state disk.old) → IsRunning self.new → NodeOn self.old (D.state disk.old) → NodeOn self.new (D.state disk.new) }
-        // A crash at any moment leaves the state as it was, or with the entry.
-        ensures any_moment { Tells (D.state disk.old) → NodeOn self.old (D.state disk.old) → (s : State) → Keeps self.old s
-            → LeavesOnly (D.state disk.old) (D.state disk.new) (LeftBy s (arrival_events s moment input.now peer.now bytes.now) (D.state disk.old)) }
-        ensures stopped { (faults : ℕ) → IsStoppedAt self.old faults → (result ≡ Err (NodeFault.Stopped faults)) × (self.new ≡ self.old) × (disk.new ≡ disk.old) }
-        ensures faults { HasNodeCause self.old self.new (D.faults disk.old) (D.faults disk.new) result }
-        ensures tells { (D.state disk.new).tells ≡ (D.state disk.old).tells }
-    {
-        if let Some(faults) = self.stopped {
-            return Err(NodeFault::Stopped { faults });
-        }
-        if !self.config.knows(input) {
-            return Ok(Arrival::UnknownInput);
-        }
-        if bytes.is_empty() {
-            return Ok(Arrival::Empty);
-        }
-        if bytes.len() > MAX_PAYLOAD {
-            return Ok(Arrival::FrameTooLong);
-        }
-        let version = self.config.version;
-        let message = message_of(self.alloc, version, moment, input, peer, bytes)?;
-        self.enter(disk, Entry::Message(message))
     }
 
     /// The outcome of a committed position, and `None` exactly elsewhere.
@@ -201,6 +150,17 @@ impl Node {
     {
         self.outcomes.len() as u64
     }
+}
+
+// A chunk table for each input.
+fn new_tables(alloc: Global, inputs: &[Input]) -> Result<Vec<Chunks>, AllocError>
+    ensures { IfOk result (λ tables. AreTables tables.items inputs.now []) }
+{
+    let mut tables = Vec::with_capacity(alloc, inputs.len())?;
+    for _ in inputs {
+        tables.push(Chunks::new(alloc))?;
+    }
+    Ok(tables)
 }
 
 /// What a node keeps, each image shows that a crash may leave of a disk on which it stands.

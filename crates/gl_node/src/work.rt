@@ -30,8 +30,8 @@ pub struct Work {
 }
 
 /// Stages a range: gives it with the outcomes of its entries, one after another. Where memory is
-/// wanting it gives the range back, and also where a moment is 2^63 or more, which no entry of a
-/// journal has.
+/// wanting it gives the range back, and also where a moment is above 253,402,300,799,999 or a payload
+/// has more than 1,048,576 bytes, which is so in no entry of a journal.
 pub fn stage_range(alloc: Global, range: Range) -> Result<Work, (Range, AllocError)>
     ensures value { IfOk result (λ work. work.range ≡ range) }
     ensures err { IfErr result (λ refused. refused.0 ≡ range) }

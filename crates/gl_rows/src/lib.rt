@@ -5,7 +5,11 @@
 #![tactic(auto)]
 
 #[cfg(test)]
+mod connection_tests;
+#[cfg(test)]
 mod crash_tests;
+#[cfg(test)]
+mod decoded_tests;
 #[cfg(test)]
 mod opening_tests;
 #[cfg(test)]

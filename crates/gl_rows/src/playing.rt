@@ -39,3 +39,10 @@ pub fn play_on(
     let written = Vec::from_slice(alloc, sink.bytes())?;
     Ok(Ended { status, written })
 }
+
+/// Whether a script over a new store ends well and writes just this.
+pub fn writes(alloc: Global, script: &[u8], written: &[u8]) -> Result<bool, AllocError> {
+    let mut disk = MemoryDisk::new(alloc, Vec::new(alloc))?;
+    let ended = play_on(alloc, SESSION, script, &mut disk)?;
+    Ok(ended.status == Status::Done && ended.written.as_slice() == written)
+}

@@ -2,4 +2,4 @@ use Rattle.gl_cli.proofs.Arrivals.{journal_law, workers_law}
 use Rattle.gl_cli.proofs.law.law_arrivals_of_a_script.Goals as goal
 
 pub returns : goal.returns
-returns c = record { journal = journal_law; processors = λ base lines. workers_law base base.journal 0 lines }
+returns c = record { journal = journal_law; processors = workers_law }

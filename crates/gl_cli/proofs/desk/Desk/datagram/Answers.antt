@@ -1,14 +1,15 @@
-use Rattle.gl_node.specs.Arrivals.{arrival_of, next_entry}
-use Rattle.gl_cli.proofs.Desks.{after_arrival, still_running}
+use Rattle.gl_node.specs.Arrivals.{datagram_events}
+use Rattle.gl_node.specs.State.{state_after}
+use Rattle.gl_cli.proofs.Desks.{after_arrival, datagram_arrives, still_running}
 use Rattle.gl_cli.proofs.desk.Desk.datagram.Goals as goal
 
 pub returns-clause-answer : goal.returns-clause-answer
 returns-clause-answer g c s kept =
     let answer = c.in_ok-arrival.ensures.answer s kept.node in (
       answer.0,
-      after_arrival c.args.self.now c.datagram.new.self s (arrival_of s c.args.moment c.args.input.now c.args.peer.now c.args.bytes.now)
-          (next_entry s.journal c.args.moment c.args.input.now c.args.peer.now c.args.bytes.now) kept
-          (still_running _ _ _ _ c.in_ok-arrival.arrival kept.running c.in_ok-arrival.ensures.faults) answer.1,
+      after_arrival c.args.self.now c.datagram.new.self s (state_after s (datagram_events s c.args.moment c.args.input.now c.args.peer.now c.args.bytes.now)) kept
+          (still_running _ _ _ _ c.in_ok-arrival.arrival kept.running c.in_ok-arrival.ensures.faults) answer.1
+          (datagram_arrives s c.args.moment c.args.input.now c.args.peer.now c.args.bytes.now),
     )
 
 pub returns-in_err-arrival-clause-any_moment : goal.returns-in_err-arrival-clause-any_moment

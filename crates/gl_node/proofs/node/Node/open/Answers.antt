@@ -1,8 +1,11 @@
-use Rattle.std.proofs.Common.{length, refl, ◌∙◌, ap, arith, Err, inr}
+use Rattle.std.proofs.Common.{List, [], length, subst, refl, ◌∙◌, ap, arith, Err, inr}
 use Rattle.gl_gatelog.specs.declared.kind.Log.TheVariants.{Journal, Index}
 use Rattle.gl_gatelog.specs.View.{GateView}
 use Rattle.gl_gatelog.proofs.Reopening.{only_read_on, unchanged_on}
+use Rattle.gl_node.specs.declared.config.Config.{Config}
+use Rattle.gl_node.specs.declared.config.Input.{Input}
 use Rattle.gl_node.specs.declared.fault.OpenFault.{OpenFault}
+use Rattle.gl_node.specs.Node.{AreTables}
 use Rattle.gl_outside.proofs.Telling.{still}
 use Rattle.gl_node.proofs.Openings.{both_found, both_read, first_beyond, second_beyond, index_damaged, journal_damaged, not_damaged, refused_as, refuses, shows_read, taken_exit, taken_moments, told_is}
 use Rattle.gl_node.proofs.Reopened.{at_logs, base_read, keeps_opened, keeps_shown, runs_read}
@@ -78,7 +81,7 @@ returns-clause-kept g c =
       (
         base_read c.args.options c.in_ok-journal.journal c.in_ok-index.index c.in_ok-journal.entries.items c.in_ok-index.outcomes.items,
         record { journal = refl; index = refl },
-        keeps_opened _ (base_read c.args.options c.in_ok-journal.journal c.in_ok-index.index c.in_ok-journal.entries.items c.in_ok-index.outcomes.items) refl refl c.in_ok-config.ensures
+        keeps_opened _ (base_read c.args.options c.in_ok-journal.journal c.in_ok-index.index c.in_ok-journal.entries.items c.in_ok-index.outcomes.items) refl refl c.in_ok-config.ensures (subst (λ (inputs : List Input). AreTables c.in_ok-tables.tables.items inputs []) (c.as_slice.ensures ∙ ap (λ (x : Config). x.inputs) c.in_ok-config.ensures) c.in_ok-tables.ensures)
             j.1 i.1 (omega (arith, i.2, c.len.ensures)) c.new.ensures.items c.new-2.ensures.items (omega (arith, c.len-next.ensures))
             (at_logs Journal (c.in_ok-journal-2.journal) c.args.options.segment c.args.options.journal_limit (length c.in_ok-journal.entries.items) c.in_ok-journal.journal j.0 c.in_ok-journal-2.ensures.value.0)
             (at_logs Index (c.in_ok-journal-2.index) c.args.options.segment c.args.options.index_limit (length c.in_ok-index.outcomes.items) c.in_ok-index.index i.0 c.in_ok-journal-2.ensures.value.1)
@@ -101,7 +104,7 @@ returns-clause-opened g c tells journal found shown =
     let r = both_read c.args.options c.in_ok-journal.journal c.in_ok-index.index c.in_ok-journal.entries.items c.in_ok-index.outcomes.items d1 d2
     j.0 i.0 (c.in_ok-journal.ensures.read tells) second (c.in_ok-index.ensures.read t1) j.1 i.1 (omega (arith, i.2, c.len.ensures)) in
     keeps_shown c.args.options c.in_ok-journal.journal c.in_ok-index.index c.in_ok-journal.entries.items c.in_ok-index.outcomes.items d0.reads (both_found c.args.options c.in_ok-journal.journal c.in_ok-index.index c.in_ok-journal.entries.items c.in_ok-index.outcomes.items d0 d2 same r) journal found shown
-    _ refl refl c.in_ok-config.ensures c.new.ensures.items c.new-2.ensures.items (omega (arith, c.len-next.ensures)) c.in_ok-journal-2.ensures.value.0 c.in_ok-journal-2.ensures.value.1
+    _ refl refl c.in_ok-config.ensures (subst (λ (inputs : List Input). AreTables c.in_ok-tables.tables.items inputs []) (c.as_slice.ensures ∙ ap (λ (x : Config). x.inputs) c.in_ok-config.ensures) c.in_ok-tables.ensures) c.new.ensures.items c.new-2.ensures.items (omega (arith, c.len-next.ensures)) c.in_ok-journal-2.ensures.value.0 c.in_ok-journal-2.ensures.value.1
     (runs_read Journal c.args.options.segment c.args.options.journal_limit (length c.in_ok-journal.entries.items) c.in_ok-journal.journal j.0)
     (runs_read Index c.args.options.segment c.args.options.index_limit (length c.in_ok-index.outcomes.items) c.in_ok-index.index i.0)
 
