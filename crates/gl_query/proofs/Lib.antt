@@ -20,3 +20,5 @@ pub mod Lettering
 pub mod Lawful
 pub mod Polishing
 pub mod Speaking
+pub mod Requiring
+pub mod Rows

@@ -4,7 +4,6 @@ use Rattle.std.proofs.lemmas.Bool.Decides.{nat_tests}
 use Rattle.std.proofs.lemmas.Fmt.{decimal_by_steps}
 use Rattle.std.specs.Fmt.{decimal, signed_decimal}
 use Rattle.std.specs.Char.{is_ascii_digit}
-use Rattle.std.specs.Str.{bytes_eq}
 use lib.Signed.{mag}
 use Rattle.gl_query.specs.Tokens.{ends_word}
 use Rattle.gl_query.specs.Words.{magnitude_from, signed_number, number_of, bound_of, is_any_run, some_bound}

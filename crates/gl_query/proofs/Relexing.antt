@@ -1,12 +1,12 @@
 -- Printed tokens, read again.
-use Rattle.std.proofs.Common.{◌≡◌, ℕ, zero, suc, ◌+◌, ◌-◌, ◌<◌, ◌≤◌, ◌==◌, max, Bool, true, false, cond, not, ◌&&◌, ◌||◌, List, [], ◌∷◌, ◌++◌, length, get_or, take, drop, Option, Some, None, codes, refl, sym, ap, ◌∙◌, arith, append_assoc, length-append}
+use Rattle.std.proofs.Common.{◌≡◌, ℕ, zero, suc, ◌+◌, ◌==◌, max, Bool, true, false, cond, not, ◌||◌, List, [], ◌∷◌, ◌++◌, length, get_or, drop, Some, None, codes, refl, sym, ap, ◌∙◌, arith, append_assoc, length-append}
 use Rattle.std.proofs.lemmas.Bool.Decides.{nat_tests}
-use Rattle.std.proofs.lemmas.List.{take-append-le, drop-append-le, get_or-append-add, take_all, drop_all, append-nil}
+use Rattle.std.proofs.lemmas.List.{take-append-le, drop-append-le, get_or-append-add, take_all, drop_all}
 use Rattle.std.specs.Str.{bytes_eq}
 use Rattle.gl_query.specs.declared.token.Token.{Token}
 use Rattle.gl_query.specs.declared.token.Token.TheVariants.{Word, Field, Exists, Phrase}
 use Rattle.gl_query.specs.declared.token.Token.TheVariants as token
-use Rattle.gl_query.specs.Tokens.{ends_word, word_end, phrase_end, word_or_field, named_token, word_token, phrase_token, sign_token, text_token, token_or, token_at, token_here, bytes_inside, tokens_from, tokens_of}
+use Rattle.gl_query.specs.Tokens.{ends_word, word_end, phrase_end, word_or_field, named_token, word_token, phrase_token, sign_token, token_or, token_at, token_here, bytes_inside, tokens_from, tokens_of}
 use Rattle.gl_query.specs.Reading.{units}
 use Rattle.gl_query.specs.Printing.{is_keyword, phrase_byte, phrase_text}
 use Rattle.std.specs.List.{flat_map}

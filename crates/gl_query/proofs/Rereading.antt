@@ -1,5 +1,5 @@
 -- The printed text of a tree reads back to it.
-use Rattle.std.proofs.Common.{◌≡◌, ◌≢◌, ℕ, zero, suc, ◌+◌, ◌^◌, ◌<◌, ◌≤◌, max, Bool, true, false, cond, List, [], ◌∷◌, ◌++◌, ℤ, Option, Some, None, codes, refl, sym, ap, ◌∙◌, subst, arith, append_assoc, append-nil}
+use Rattle.std.proofs.Common.{◌≡◌, ◌≢◌, ℕ, zero, suc, ◌+◌, ◌^◌, ◌<◌, ◌≤◌, Bool, true, false, cond, List, [], ◌∷◌, ◌++◌, ℤ, Option, Some, None, codes, refl, sym, ap, ◌∙◌, subst, arith, append_assoc, append-nil}
 use Rattle.std.specs.Bool.{⊤}
 use Rattle.std.specs.List.{list_any, flat_map}
 use Rattle.std.specs.Fmt.{signed_decimal}
@@ -18,7 +18,7 @@ use Rattle.gl_query.specs.declared.term.Term.{Term}
 use Rattle.gl_query.specs.declared.term.Term.TheVariants.{All, Exists, Text, Pattern, Within}
 use Rattle.gl_query.specs.Words.{plain, pieces, is_wildcard, is_any_run, wildcard_term, word_term, bound_of, limit_of}
 use Rattle.gl_query.specs.Tokens.{sign_token, tokens_from}
-use Rattle.gl_query.specs.Tree.{Tree, leaf, negation, both, either, Trees, none, also, one_of}
+use Rattle.gl_query.specs.Tree.{Tree, leaf, negation, both, either, Trees, none, also}
 use Rattle.gl_query.specs.Grammar.{IsTerm, word, phrase, exists, field_word, field_phrase, range, IsOperand, a_term, a_negation, in_parentheses, AreFactors, last_factor, joined, AreAlternatives, last_alternative, parted_by_or, IsQuery, something}
 use Rattle.gl_query.specs.Printing.{phrase_byte, name_text, phrase_text, pattern_text, field_text, low_text, high_text, term_text, tree_text, members_text, depth, depths}
 use Rattle.gl_query.proofs.Spelling.{has_byte, byte_runs, bytes_same, name_word, pattern_word, says_phrase, says_pattern}

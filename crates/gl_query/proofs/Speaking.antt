@@ -1,5 +1,5 @@
 -- A tree that was read can be printed: each name has a byte, each number 64 bits, and all text is UTF-8.
-use Rattle.std.proofs.Common.{◌≡◌, ◌≢◌, ℕ, zero, suc, ◌+◌, ◌^◌, ◌<◌, ◌==◌, nat_lt, Bool, true, false, cond, not, ◌&&◌, List, [], ◌∷◌, ◌++◌, ℤ, Option, Some, None, codes, refl, sym, ap, ◌∙◌, subst, arith}
+use Rattle.std.proofs.Common.{◌≡◌, ◌≢◌, ℕ, ◌^◌, ◌<◌, ◌==◌, nat_lt, Bool, true, false, cond, not, ◌&&◌, List, [], ◌∷◌, ◌++◌, ℤ, Option, Some, None, codes, refl, sym, ap, ◌∙◌, arith}
 use Rattle.std.specs.Bool.{⊤}
 use Rattle.std.specs.Str.{IsUtf8}
 use Rattle.std.specs.List.{list_any}
@@ -14,22 +14,21 @@ use Rattle.gl_query.specs.declared.token.Edge.{Edge}
 use Rattle.gl_query.specs.declared.token.Edge.TheVariants.{Including, Excluding}
 use Rattle.gl_query.specs.declared.token.Token.{Token}
 use Rattle.gl_query.specs.declared.token.Token.TheVariants as token
-use Rattle.gl_query.specs.declared.term.Piece.{Piece}
 use Rattle.gl_query.specs.declared.term.Piece.TheVariants.{Byte, AnyRun, AnyOne}
 use Rattle.gl_query.specs.declared.term.Limit.{Limit}
 use Rattle.gl_query.specs.declared.term.Limit.TheVariants.{Unbounded, Included, Excluded}
 use Rattle.gl_query.specs.declared.term.Term.{Term}
-use Rattle.gl_query.specs.declared.term.Term.TheVariants.{All, Exists, Text, Pattern, Within}
+use Rattle.gl_query.specs.declared.term.Term.TheVariants.{All, Text, Pattern, Within}
 use Rattle.gl_query.specs.Words.{plain, piece_of, pieces, is_wildcard, is_any_run, wildcard_term, word_term, number_of, bound_of, some_bound, limit_of, comparison_term}
 use Rattle.gl_query.specs.Tree.{Tree, leaf, negation, both, either, Trees, none, also, one_of}
 use Rattle.gl_query.specs.Grammar.{IsTerm, word, phrase, exists, field_word, field_phrase, comparison, range, IsOperand, a_term, a_negation, in_parentheses, AreFactors, last_factor, joined, AreAlternatives, last_alternative, parted_by_or, side_by_side, IsQuery, nothing, something}
-use Rattle.gl_query.specs.Printing.{name_text, phrase_text, pattern_text, field_text, low_text, high_text, term_text, tree_text, members_text}
+use Rattle.gl_query.specs.Printing.{name_text, phrase_text, pattern_text, field_text, low_text, high_text, tree_text, members_text}
 use Rattle.gl_query.proofs.Spelling.{has_byte}
 use Rattle.gl_query.proofs.Numbering.{number_small}
 use Rattle.gl_query.proofs.Relexing.{lex}
 use Rattle.gl_query.proofs.Lettering.{utf8_byte, utf8_plain, utf8_name, utf8_phrase, utf8_pattern}
 use Rattle.gl_query.proofs.Lawful.{Each, each_append, each_front, each_back, IsReadable, open_escape, IsLawfulWord, IsLawful, lawful}
-use Rattle.gl_query.proofs.Rereading.{IsFieldName, IsLimit, IsNoStar, IsSpoken, IsSaid, AreSpoken, IsSpokenTree, AreMany}
+use Rattle.gl_query.proofs.Rereading.{IsFieldName, IsLimit, IsSaid, AreSpoken, IsSpokenTree, AreMany}
 
 -- the tokens of a query can be read
 

@@ -14,3 +14,4 @@ pub mod Attempts
 pub mod Matching
 pub mod Evaluation
 pub mod Printing
+pub mod Required

@@ -8,7 +8,8 @@
 //! within the limits.
 //! `matches` says whether that tree holds of a map of fields (`specs/Matching`, over the tokens of a text
 //! in `specs/Texts` and wildcards in `specs/Patterns`). It takes no memory, and time as the texts that it
-//! looks at times the query.
+//! looks at times the query. A message of which a query holds has each of the query's required terms
+//! (`specs/Required`, by `law_required_terms`).
 #![tactic(auto)]
 
 mod builder;
@@ -19,6 +20,7 @@ mod pattern;
 mod print;
 mod query;
 mod read;
+mod required;
 mod step;
 mod term;
 #[cfg(test)]
@@ -31,5 +33,6 @@ pub use matching::matches;
 pub use print::print_query;
 pub use query::{Query, QueryRefusal};
 pub use read::{MAX_QUERY, law_one_tree, read_query};
+pub use required::law_required_terms;
 pub use term::{Limit, Node, Piece, Term};
 pub use token::{Comparison, Edge, Token};
