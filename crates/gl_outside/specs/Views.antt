@@ -20,6 +20,11 @@ pub record SinkView : Type 0 where
   pub made : ℕ
   pub faults : ℕ
 
+-- the last text that it refused, and how often it refused one
+pub record Refusals : Type 0 where
+  pub refused : List ℕ
+  pub faults : ℕ
+
 -- the last text that it refused, and the same of its calls
 pub record ShopView : Type 0 where
   pub refused : List ℕ

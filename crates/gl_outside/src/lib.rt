@@ -6,8 +6,10 @@
 //!
 //! `MemorySource`, `MemorySink` and `MemoryDisk` tell everything, and fail exactly at listed calls; the
 //! disk also where its room for a record of its calls is used up. `law_crash_images` says in plain words
-//! which images it may leave, and `MemoryDisk::after_crash` makes a disk of one. `ListShop` refuses
-//! each text, since there are no patterns yet.
+//! which images it may leave, and `MemoryDisk::after_crash` makes a disk of one.
+//!
+//! A `Pattern` means what `regex` defines for its text, and a `PatternShop` builds patterns: `RegexShop` each that `regex`
+//! takes, `ListShop` the same where the call isn't listed.
 //!
 //! `FileDisk`, `ReaderSource` and `WriterSink` stand over the system. They tell nothing, so no clause says
 //! which bytes reach a file or a stream: that is tested, and their counts of faults are proved.
@@ -30,6 +32,8 @@ mod listed;
 mod memory;
 mod memory_link;
 mod pattern;
+#[cfg(test)]
+mod pattern_tests;
 mod record;
 mod shop;
 #[cfg(test)]
@@ -53,8 +57,8 @@ pub use laws::{law_crash_images, law_images_in_words};
 pub use link::{Delivery, LONGEST_DATAGRAM, Link, Received};
 pub use memory::MemoryDisk;
 pub use memory_link::MemoryLink;
-pub use pattern::{Pattern, PatternShop};
-pub use shop::ListShop;
+pub use pattern::Pattern;
+pub use shop::{ListShop, PatternShop, RegexShop};
 pub use stream::{Sink, Source};
 pub use streams::{MemorySink, MemorySource};
 pub use system_clock::SystemClock;

@@ -1,17 +1,119 @@
-// A shop of patterns in memory.
-ghost use Rattle.std.specs.Prelude.{◌≡◌, ◌⊎◌, [], IsErrOf};
+// Who builds patterns: the shop over `regex`, and one whose listed calls fail.
+ghost use Rattle.std.specs.Prelude.{◌≡◌, ◌⊎◌, [], IsOk, IfOk, IsErrOf};
 ghost use Rattle.gl_base.specs.Counts.{HasCause};
 ghost use Rattle.gl_outside.specs.declared.fault.Outside.TheVariants.{Failed, OutOfMemory};
-ghost use Rattle.gl_outside.specs.Listed.{one_more};
+ghost use Rattle.gl_outside.specs.Listed.{IsListed, one_more};
+ghost use Rattle.gl_outside.specs.Patterns.{IsPattern, IsRefusedByRegex};
 ghost use Rattle.gl_outside.specs.Shop.{refused_after};
 ghost use Rattle.gl_outside.specs.Views.{ShopView};
 
-use crate::listed::count_one;
-use crate::{Outside, Pattern, PatternShop};
+use crate::listed::{count_one, is_listed};
+use crate::{Outside, Pattern};
 use std::alloc::Global;
 use std::marker::Model;
 
-/// A shop that refuses the texts of listed calls. There are no patterns yet, so it refuses each text.
+/// Builds patterns.
+pub trait PatternShop {
+    ghost use Rattle.std.specs.Prelude.{List, ℕ};
+
+    /// How often it has refused a text.
+    ghost faults: { Self → ℕ };
+
+    /// The last refused text, or none.
+    ghost refused: { Self → List ℕ };
+
+    /// Builds the pattern of a text. `Failed` is a refusal for another cause than memory.
+    fn build(&mut self, text: &str) -> Result<Pattern, Outside>
+        ensures text { IfOk result (λ p. p ≡ text.now) }
+        ensures read { IsOk result → IsPattern text.now }
+        ensures cause { HasCause Failed (faults self.old) (faults self.new) result }
+        ensures refused { refused self.new ≡ refused_after result text.now (refused self.old) };
+
+    /// How often it has refused a text, which never falls; it stays at 2^64 - 1.
+    fn faults(&self) -> u64
+        ensures { result ≡ faults self.now };
+
+    /// The text of the last `build` that answered `Failed`; empty before the first.
+    fn refused(&self) -> &str
+        ensures { result.now ≡ refused self.now };
+}
+
+/// The pattern of a text; `Failed` where `regex` refuses the text.
+fn pattern_of(alloc: Global, text: &str) -> Result<Pattern, Outside>
+    ensures text { IfOk result (λ p. p ≡ text.now) }
+    ensures read { IsOk result → IsPattern text.now }
+    ensures only { IsErrOf result Failed → IsRefusedByRegex text.now }
+{
+    match Pattern::new(alloc, text) {
+        Ok(pattern) => Ok(pattern),
+        Err(regex::Error::OutOfMemory) => Err(Outside::OutOfMemory),
+        Err(_) => Err(Outside::Failed),
+    }
+}
+
+/// The shop over `regex`.
+#[derive(Drop)]
+pub struct RegexShop {
+    alloc: Global,
+    refused: String,
+    faults: u64,
+}
+
+impl Model for RegexShop {
+    ghost use Rattle.std.specs.String.{string_bytes};
+    ghost use Rattle.gl_outside.specs.Views.{Refusals};
+
+    ghost Value = { Refusals };
+
+    ghost view = { λ s. record { refused = string_bytes s.refused; faults = s.faults } };
+}
+
+impl RegexShop {
+    /// A shop that has refused nothing.
+    pub fn new(alloc: Global) -> RegexShop
+        ensures { result ≡ record { refused = []; faults = 0 } }
+    {
+        RegexShop {
+            alloc,
+            refused: String::new(alloc),
+            faults: 0,
+        }
+    }
+}
+
+impl PatternShop for RegexShop {
+    ghost faults = { λ s. s.faults };
+
+    ghost refused = { λ s. s.refused };
+
+    fn build(&mut self, text: &str) -> Result<Pattern, Outside>
+        ensures text { IfOk result (λ p. p ≡ text.now) }
+        ensures read { IsOk result → IsPattern text.now }
+        ensures cause { HasCause Failed self.old.faults self.new.faults result }
+        ensures refused { self.new.refused ≡ refused_after result text.now self.old.refused }
+        ensures only { IsErrOf result Failed → IsRefusedByRegex text.now }
+        ensures fault { IsErrOf result Failed → self.new ≡ record { refused = text.now; faults = one_more self.old.faults } }
+        ensures same { (IsErrOf result Failed → ⊥) → self.new ≡ self.old }
+    {
+        let refused = String::from_str(self.alloc, text)?;
+        let built = pattern_of(self.alloc, text);
+        if let Err(Outside::Failed) = built {
+            count_one(&mut self.faults);
+            self.refused = refused;
+        }
+        built
+    }
+
+    fn faults(&self) -> u64 {
+        self.faults
+    }
+
+    fn refused(&self) -> &str {
+        self.refused.as_str()
+    }
+}
+
+/// A shop whose listed calls fail, and which otherwise builds as `regex` does.
 #[derive(Drop)]
 pub struct ListShop {
     alloc: Global,
@@ -51,18 +153,37 @@ impl PatternShop for ListShop {
     ghost refused = { λ s. s.refused };
 
     fn build(&mut self, text: &str) -> Result<Pattern, Outside>
+        ensures text { IfOk result (λ p. p ≡ text.now) }
+        ensures read { IsOk result → IsPattern text.now }
         ensures cause { HasCause Failed self.old.faults self.new.faults result }
         ensures refused { self.new.refused ≡ refused_after result text.now self.old.refused }
-        ensures refuses { IsErrOf result Failed ⊎ IsErrOf result OutOfMemory }
+        ensures listed { IsListed self.old.failing self.old.made → IsErrOf result Failed ⊎ IsErrOf result OutOfMemory }
+        ensures only { IsErrOf result Failed → IsListed self.old.failing self.old.made ⊎ IsRefusedByRegex text.now }
         ensures fault { IsErrOf result Failed → self.new ≡ record { refused = text.now; failing = self.old.failing; made = one_more self.old.made; faults = one_more self.old.faults } }
-        // The text is copied first, and nothing is done where that copy can't be had.
+        ensures built { IsOk result → self.new ≡ record self.old { made = one_more self.old.made } }
+        // Where memory is wanting, the call isn't counted.
         ensures memory { IsErrOf result OutOfMemory → self.new ≡ self.old }
     {
         let refused = String::from_str(self.alloc, text)?;
-        count_one(&mut self.made);
-        count_one(&mut self.faults);
-        self.refused = refused;
-        Err(Outside::Failed)
+        let mut made = self.made;
+        let built = if is_listed(&self.failing, &mut made) {
+            Err(Outside::Failed)
+        } else {
+            pattern_of(self.alloc, text)
+        };
+        match built {
+            Ok(pattern) => {
+                self.made = made;
+                Ok(pattern)
+            }
+            Err(Outside::Failed) => {
+                self.made = made;
+                count_one(&mut self.faults);
+                self.refused = refused;
+                Err(Outside::Failed)
+            }
+            Err(Outside::OutOfMemory) => Err(Outside::OutOfMemory),
+        }
     }
 
     fn faults(&self) -> u64 {

@@ -1,7 +1,7 @@
 // The kinds in memory fail at their listed calls alone, and a folder of files keeps what was synced.
 use crate::{
-    Disk, FileDisk, ListShop, MemoryDisk, MemorySink, MemorySource, Outside, PatternShop,
-    ReaderSource, Sink, Source, Unsynced, WriterSink,
+    Disk, FileDisk, MemoryDisk, MemorySink, MemorySource, Outside, ReaderSource, Sink, Source,
+    Unsynced, WriterSink,
 };
 use std::alloc::{AllocError, Global};
 use std::test::*;
@@ -47,16 +47,6 @@ fn a_memory_disk_fails_where_listed(rt: HostRuntime) -> Result<(), Fail> {
     assert!(rt; disk.cut(7, 2) == Ok(()));
     assert!(rt; disk.write_at(7, 0, b"x") == Err(Outside::Failed));
     assert!(rt; disk.length(7) == Ok(2) && disk.bytes(7) == b"ab".as_slice() && disk.faults() == 2);
-    Ok(())
-}
-
-#[test]
-fn a_shop_keeps_the_text_that_it_refused(rt: HostRuntime) -> Result<(), Fail> {
-    let alloc = rt.alloc();
-    let mut shop = ListShop::new(alloc, Vec::new(alloc));
-    assert!(rt; shop.refused() == "");
-    assert!(rt; shop.build("a+").is_err());
-    assert!(rt; shop.refused() == "a+" && shop.faults() == 1);
     Ok(())
 }
 

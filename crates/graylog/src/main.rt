@@ -4,7 +4,7 @@
 use gl_base::Text;
 use gl_cli::{Command, Status, command_of, run_command};
 use gl_node::Log;
-use gl_outside::{FileDisk, ListShop, ReaderSource, WriterSink};
+use gl_outside::{FileDisk, ReaderSource, RegexShop, WriterSink};
 use std::alloc::{AllocError, Global};
 use std::process::ExitCode;
 use std::{env, io};
@@ -45,7 +45,7 @@ fn run(rt: HostRuntime) -> Status {
         return Status::OutOfMemory;
     };
     let mut disk = FileDisk::new(rt, alloc, folder);
-    let mut shop = ListShop::new(alloc, Vec::new(alloc));
+    let mut shop = RegexShop::new(alloc);
     let mut source = ReaderSource::new(rt.stdin());
     let mut sink = WriterSink::new(rt.stdout());
     run_command(alloc, &words, &mut disk, &mut shop, &mut source, &mut sink)
