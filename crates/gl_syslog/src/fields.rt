@@ -45,8 +45,8 @@ impl From<FieldRefusal> for Undecoded {
     }
 }
 
-/// The name of a facility, 0 to 23.
-fn facility_name(facility: u8) -> &'static str
+/// The name of a facility, 0 to 23 (RFC 5424 section 6.2.1, table 1); empty for another number.
+pub fn facility_name(facility: u8) -> &'static str
     ensures { result.now ≡ facility_name facility }
 {
     match facility {

@@ -43,6 +43,7 @@ mod unread;
 
 pub use bsd::{BsdParts, BsdStamp, read_3164};
 pub use decode::decode_syslog;
+pub use fields::facility_name;
 pub use frames::{LineFrames, law_one_framing};
 pub use frames_law::law_frames_of_bytes;
 pub use gl_base::Fed;
