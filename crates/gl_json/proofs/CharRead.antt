@@ -9,8 +9,8 @@ use Rattle.gl_json.specs.declared.bytes.Stop.TheVariants.{At}
 use Rattle.gl_json.specs.declared.chars.Char.{Char}
 use Rattle.gl_json.specs.declared.chars.Char.TheVariants.{One, Two, Three, Four, Escape, Unicode}
 use Rattle.gl_json.specs.Chars.{char_bytes, is_tail, is_second, is_plain, is_escape, is_hex, is_char, AreChars, inside}
-use Rattle.gl_json.specs.Reading.{◌>>=◌, Read, one_at, unicode_at, escape_at, two_at, three_at, four_at, char_at, chars_end, string_at, sign_at, before}
-use Rattle.gl_json.proofs.Taking.{bound, goes_on, ok_is, split, one_sound, one_complete, before_is}
+use Rattle.gl_json.specs.Reading.{◌>>=◌, Read, past, one_at, unicode_at, escape_at, two_at, three_at, four_at, char_at, chars_end, string_at, sign_at, before}
+use Rattle.gl_json.proofs.Taking.{bound, goes_on, ok_is, split, one_sound, one_complete, before_is, past_is}
 
 pub record IsRead (bytes : List ℕ) (y : Char × List ℕ) : Type 0 where
   pub is : is_char y.0 ≡ true
@@ -265,6 +265,29 @@ end_goes bytes rest y g some h e = record {
   enough = omega (arith, char_shorter rest y e, g.enough);
   same = sym (turn_goes g.turns rest some g.enough h ∙ goes_on (char_at rest) (λ c. chars_end (g.turns - 1) c.1) y e) ∙ g.same;
 }
+
+-- plain bytes are passed over
+
+plain_turn : (bytes : List ℕ) (b : ℕ) (rest : List ℕ) (t : Bool) → is_plain b ≡ t → (Goes bytes rest → Goes bytes (past is_plain rest)) → Goes bytes (b ∷ rest) → Goes bytes (past is_plain (b ∷ rest))
+unfolding past
+plain_turn bytes b rest true h past_rest g =
+    subst (Goes bytes) (sym (take_yes (is_plain b) (past is_plain rest) (b ∷ rest) h))
+    (past_rest (end_goes bytes (b ∷ rest) (One b, rest) g (omega arith) (plain_no_quote b h) (char_complete (One b) rest h)))
+plain_turn bytes b rest false h past_rest g = subst (Goes bytes) (sym (take_no (is_plain b) (past is_plain rest) (b ∷ rest) h)) g
+
+pub goes_starts : (bytes : List ℕ) → Goes bytes bytes
+goes_starts bytes = record { turns = length bytes; enough = omega arith; same = refl }
+
+pub goes_past : (bytes rest : List ℕ) → Goes bytes rest → Goes bytes (past is_plain rest)
+unfolding past
+goes_past bytes [] g = g
+goes_past bytes (b ∷ rest) g = plain_turn bytes b rest (is_plain b) refl (goes_past bytes rest) g
+
+past_few : (bytes : List ℕ) → length (past is_plain bytes) ≤ length bytes
+past_few bytes = let p = past_is is_plain bytes in omega (arith, ap length p.text, length-append p.front (past is_plain bytes))
+
+pub past_shorter : (bytes : List ℕ) (y : Char × List ℕ) → char_at bytes ≡ Ok y → length (past is_plain y.1) < length bytes
+past_shorter bytes y e = omega (arith, past_few y.1, char_shorter bytes y e)
 
 -- the characters of a string
 

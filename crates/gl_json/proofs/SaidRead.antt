@@ -1,5 +1,5 @@
 -- What the inside of a string says.
-use Rattle.std.proofs.Common.{◌≡◌, ℕ, zero, suc, ◌+◌, ◌-◌, ◌<◌, ◌≤◌, ◌&&◌, Bool, true, false, cond, List, [], ◌∷◌, ◌++◌, length, Option, Some, None, Result, Ok, Err, refl, sym, ap, subst, ◌∙◌, arith, append_assoc}
+use Rattle.std.proofs.Common.{◌≡◌, ℕ, zero, suc, ◌+◌, ◌-◌, ◌<◌, ◌≤◌, ◌&&◌, Bool, true, false, cond, List, [], ◌∷◌, ◌++◌, length, Option, Some, None, Result, Ok, Err, refl, sym, ap, subst, ◌∙◌, arith, append_assoc, append-nil}
 use Rattle.std.proofs.lemmas.Bool.{and_from, and_parts}
 use Rattle.std.proofs.lemmas.List.{length-append}
 use Rattle.std.proofs.lemmas.Str.{IsUtf8-append, IsUtf8-nil, IsUtf8-encode}
@@ -14,9 +14,9 @@ use Rattle.gl_json.specs.declared.chars.Char.TheVariants.{One, Two, Three, Four,
 use Rattle.gl_json.specs.declared.refusal.JsonRefusal.{JsonRefusal}
 use Rattle.gl_json.specs.Chars.{char_bytes, is_char, is_tail, is_second, is_plain, is_escape, AreChars, inside}
 use Rattle.gl_json.specs.Escapes.{meaning, hex_value, code_unit, is_high, is_low, replacement, lone, scalar_text, surrogate_pair, unit_alone, unit_text, char_text, waits, decoded_behind, decoded, Says, said_by, chars_of, text_of}
-use Rattle.gl_json.specs.Reading.{◌>>=◌, char_at}
+use Rattle.gl_json.specs.Reading.{◌>>=◌, past, char_at, before}
 use Rattle.gl_json.specs.Places.{refused, Answers}
-use Rattle.gl_json.proofs.Taking.{bound, goes_on, ok_is}
+use Rattle.gl_json.proofs.Taking.{bound, goes_on, ok_is, before_is, past_is}
 use Rattle.gl_json.proofs.CharRead.{char_sound, char_complete, char_shorter, char_some}
 use Rattle.gl_json.proofs.Encoding.{within, utf8_one, utf8_two, utf8_three, utf8_four}
 use Rattle.gl_json.proofs.Whole.{refused_ok}
@@ -161,6 +161,37 @@ spell_goes raw out more waiting rest y k some e grown = subst (λ (l : List ℕ)
   high = high_waits y.0;
 })
 
+-- plain bytes say themselves
+spell_run : (raw out front rest : List ℕ) → list_all is_plain front ≡ true → Spelling raw out None (front ++ rest) → Spelling raw (out ++ front) None rest
+unfolding char_text waits
+spell_run raw out [] rest are k = subst (λ (l : List ℕ). Spelling raw l None rest) (sym (append-nil out)) k
+spell_run raw out (b ∷ front) rest are k =
+    let p = and_parts (is_plain b) (list_all is_plain front) are in
+    subst (λ (l : List ℕ). Spelling raw l None rest) (append_assoc out (b ∷ []) front)
+    (spell_run raw (out ++ b ∷ []) front rest p.1
+    (spell_goes raw out (out ++ b ∷ []) None (b ∷ (front ++ rest)) (One b, front ++ rest) k (omega arith) (char_complete (One b) (front ++ rest) p.0) refl))
+
+spell_front : (raw out : List ℕ) (waiting : Option ℕ) (front rest : List ℕ) → 0 < length front → list_all is_plain front ≡ true → Spelling raw out waiting (front ++ rest)
+    → Spelling raw ((out ++ lone waiting) ++ front) None rest
+unfolding char_text waits
+spell_front raw out waiting [] rest some are k = absurd (omega arith)
+spell_front raw out waiting (b ∷ front) rest some are k =
+    let p = and_parts (is_plain b) (list_all is_plain front) are in
+    let grown : (out ++ lone waiting) ++ b ∷ [] ≡ out ++ char_text waiting (One b) = append_assoc out (lone waiting) (b ∷ []) in
+    subst (λ (l : List ℕ). Spelling raw l None rest) (append_assoc (out ++ lone waiting) (b ∷ []) front)
+    (spell_run raw ((out ++ lone waiting) ++ b ∷ []) front rest p.1
+    (spell_goes raw out ((out ++ lone waiting) ++ b ∷ []) waiting (b ∷ (front ++ rest)) (One b, front ++ rest) k (omega arith) (char_complete (One b) (front ++ rest) p.0) grown))
+
+pub spell_past : (raw out more : List ℕ) (waiting : Option ℕ) (rest behind plain : List ℕ) → Spelling raw out waiting rest → behind ≡ past is_plain rest → length behind < length rest
+    → plain ≡ before behind rest → more ≡ (out ++ lone waiting) ++ plain → Spelling raw more None behind
+spell_past raw out more waiting rest behind plain k passed fewer plain_is grown =
+    let p = past_is is_plain rest in
+    let text : rest ≡ p.front ++ behind = p.text ∙ ap (λ (l : List ℕ). p.front ++ l) (sym passed) in
+    let front : plain ≡ p.front = plain_is ∙ ap (before behind) text ∙ before_is p.front behind in
+    let some : 0 < length p.front = omega (arith, fewer, ap length text, length-append p.front behind) in
+    subst (λ (l : List ℕ). Spelling raw l None behind) (sym (grown ∙ ap (λ (l : List ℕ). (out ++ lone waiting) ++ l) front))
+    (spell_front raw out waiting p.front behind some p.are (subst (Spelling raw out waiting) text k))
+
 pub spell_ends : (raw out more : List ℕ) (waiting : Option ℕ) (rest : List ℕ) → Spelling raw out waiting rest → length rest ≡ 0 → more ≡ out ++ lone waiting
     → said_by None (chars_of (length raw) raw) ≡ Ok more
 unfolding decoded_behind
@@ -209,7 +240,7 @@ text_says raw text e =
     let a = chars_sound (length raw) raw p.0 p.1 in
     record { cs = p.0; are = a.are; written = a.text; said = sym p.2 }
 
-text_only : (raw : List ℕ) (cs : List Char) → AreChars cs → raw ≡ inside cs → text_of raw ≡ Ok (decoded cs)
+pub text_only : (raw : List ℕ) (cs : List Char) → AreChars cs → raw ≡ inside cs → text_of raw ≡ Ok (decoded cs)
 unfolding text_of
 text_only raw cs are e =
     let read : chars_of (length raw) raw ≡ Ok cs = ap (chars_of (length raw)) e ∙ chars_complete cs (length raw) are (omega (arith, ap length e)) in

@@ -1,5 +1,5 @@
 -- What is taken from the front of a text.
-use Rattle.std.proofs.Common.{◌≡◌, ℕ, ◌-◌, Bool, true, false, cond, List, [], ◌∷◌, ◌++◌, length, drop, Result, Ok, Err, refl, sym, ap, ◌∙◌, ◌<◌, ◌==◌, ◌⊎◌, inl, inr, arith}
+use Rattle.std.proofs.Common.{◌≡◌, ℕ, ◌-◌, Bool, true, false, cond, List, [], ◌∷◌, ◌++◌, length, take, drop, take-append-drop, Result, Ok, Err, refl, sym, ap, ◌∙◌, ◌<◌, ◌==◌, ◌⊎◌, inl, inr, arith}
 use Rattle.std.proofs.Math.Seq.{drop-cons}
 use Rattle.std.proofs.lemmas.List.{take_at, length-append}
 use Rattle.std.specs.List.{list_all}
@@ -43,6 +43,10 @@ pub past_over : (p : ℕ → Bool) (ws rest : List ℕ) → list_all p ws ≡ tr
 unfolding past
 past_over p [] rest h = refl
 past_over p (b ∷ ws) rest h = let hs = and_parts (p b) (list_all p ws) h in rw hs.0 (past_over p ws rest hs.1)
+
+pub past_group : (p : ℕ → Bool) (bytes front back : List ℕ) (n : ℕ) → front ≡ take n bytes → back ≡ drop n bytes → list_all p front ≡ true → past p back ≡ past p bytes
+past_group p bytes front back n front_is back_is are =
+    sym (past_over p front back are) ∙ ap (past p) (ap (λ (l : List ℕ). l ++ back) front_is ∙ ap (λ (l : List ℕ). take n bytes ++ l) back_is ∙ take-append-drop n bytes)
 
 pub record Passed (p : ℕ → Bool) (bytes rest : List ℕ) : Type 0 where
   pub front : List ℕ

@@ -1,10 +1,14 @@
 // The characters of a string.
-ghost use Rattle.std.specs.Prelude.{◌≡◌, ◌==◌, ◌<◌, length};
+ghost use Rattle.std.specs.Prelude.{◌≡◌, ◌==◌, ◌<◌, length, IfSome};
+ghost use Rattle.std.specs.List.{list_all};
 ghost use Rattle.std.specs.Int.{is_in_range};
 ghost use Rattle.gl_json.specs.Chars.{is_tail, is_second, is_plain, is_escape, is_hex};
-ghost use Rattle.gl_json.specs.Reading.{Gives, one_at, unicode_at, escape_at, two_at, three_at, four_at, char_at, chars_end, string_at};
+ghost use Rattle.gl_json.specs.Reading.{Gives, past, one_at, unicode_at, escape_at, two_at, three_at, four_at, char_at, chars_end, string_at};
 
 use crate::bytes::{self, Stop};
+
+// How many bytes are tested together.
+const GROUP: usize = 16;
 
 /// A character of a string as it is written: the bytes of its UTF-8, or an escape.
 #[derive(Clone, Copy, Debug, PartialEq, Eq)]
@@ -142,17 +146,70 @@ pub fn char_at(bytes: &[u8]) -> Result<(Char, &[u8]), Stop>
     }
 }
 
+/// Whether all bytes stand for themselves. Each is tested, so that no test waits for another.
+fn are_plain(bytes: &[u8]) -> bool
+    ensures { result ≡ list_all is_plain bytes.now }
+{
+    let mut all = true;
+    let mut rest = bytes;
+    while let [byte, behind @ ..] = rest {
+        all &= is_plain(*byte);
+        rest = behind;
+    }
+    all
+}
+
+/// What stands behind a group of bytes that stand for themselves.
+fn behind_group(bytes: &[u8]) -> Option<&[u8]>
+    ensures same { IfSome result (λ rest. past is_plain rest.now ≡ past is_plain bytes.now) }
+    ensures fewer { IfSome result (λ rest. length rest.now < length bytes.now) }
+{
+    if bytes.len() < GROUP {
+        return None;
+    }
+    if !is_plain(bytes[0]) {
+        return None;
+    }
+    let (group, rest) = bytes.split_at(GROUP);
+    if are_plain(group) { Some(rest) } else { None }
+}
+
+/// What stands behind bytes that stand for themselves.
+pub fn past_plain(bytes: &[u8]) -> &[u8]
+    ensures { result.now ≡ past is_plain bytes.now }
+{
+    let mut rest = bytes;
+    while let Some(behind) = behind_group(rest) {
+        rest = behind;
+    }
+    past_each_plain(rest)
+}
+
+#[tactic(auto, unfolding(crate::specs::Reading::past))]
+fn past_each_plain(bytes: &[u8]) -> &[u8]
+    ensures { result.now ≡ past is_plain bytes.now }
+{
+    let mut rest = bytes;
+    while let [byte, behind @ ..] = rest {
+        if !is_plain(*byte) {
+            return rest;
+        }
+        rest = behind;
+    }
+    rest
+}
+
 /// What stands from the quote on that ends a string, or the end of the bytes.
 fn chars_end(bytes: &[u8]) -> Result<&[u8], Stop>
     ensures { Gives (λ x. x.now) result (chars_end (length bytes.now) bytes.now) }
 {
-    let mut rest = bytes;
+    let mut rest = past_plain(bytes);
     while let [byte, ..] = rest {
         if *byte == b'"' {
             return Ok(rest);
         }
         let (_, behind) = char_at(rest)?;
-        rest = behind;
+        rest = past_plain(behind);
     }
     Ok(rest)
 }

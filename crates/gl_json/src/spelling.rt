@@ -7,6 +7,7 @@ ghost use Rattle.gl_json.specs.Escapes.{meaning, hex_value, code_unit, is_high, 
 ghost use Rattle.gl_json.specs.declared.chars.Char.{Char};
 ghost use Rattle.gl_json.specs.Places.{Answers, Halts};
 
+use crate::bytes;
 use crate::chars::{self, Char};
 use crate::read::refusal_of;
 use crate::refusal::{Halt, JsonRefusal};
@@ -46,6 +47,13 @@ fn said(alloc: Global, raw: &[u8]) -> Result<String, Halt>
     let mut waiting = None;
     let mut rest = raw;
     while !rest.is_empty() {
+        let behind = chars::past_plain(rest);
+        if behind.len() < rest.len() {
+            push_plain(&mut text, waiting, bytes::before(behind, rest))?;
+            waiting = None;
+            rest = behind;
+            continue;
+        }
         let (char, behind) = chars::char_at(rest)?;
         push_char(&mut text, waiting, char)?;
         waiting = waits(char);
@@ -127,6 +135,13 @@ fn push_lone(text: &mut Vec<u8>, waiting: Option<u32>) -> Result<(), AllocError>
         text.extend_from_slice(REPLACEMENT.as_slice())?;
     }
     Ok(())
+}
+
+fn push_plain(text: &mut Vec<u8>, waiting: Option<u32>, plain: &[u8]) -> Result<(), AllocError>
+    ensures { OnOk result (text.new.items ≡ (text.old.items ++ lone waiting) ++ plain.now) }
+{
+    push_lone(text, waiting)?;
+    text.extend_from_slice(plain)
 }
 
 fn push_scalar(text: &mut Vec<u8>, code: u32) -> Result<(), AllocError>

@@ -5,7 +5,7 @@ use Rattle.std.specs.declared.alloc.Global.{Global}
 use Rattle.gl_json.specs.declared.bytes.Stop.{Stop}
 use Rattle.gl_json.specs.Escapes.{lone, char_text}
 use Rattle.gl_json.proofs.CharRead.{char_shorter}
-use Rattle.gl_json.proofs.SaidRead.{spell_stop, spell_goes, spell_ends, spell_utf8}
+use Rattle.gl_json.proofs.SaidRead.{spell_stop, spell_goes, spell_past, spell_ends, spell_utf8}
 use Rattle.gl_json.proofs.spelling.said.Goals as goal
 
 pub returns-in_err-char : goal.returns-in_err-char
@@ -23,6 +23,13 @@ loop-rest-preserved c =
     let grown : c.push_char.new.text.items ≡ c.loop-rest.text.items ++ char_text c.loop-rest.waiting c.in_ok-char.char = c.in_ok-push_char.ensures in
     rw c.waits-waiting.ensures.waits
     (spell_goes c.args.raw.now c.loop-rest.text.items c.push_char.new.text.items c.loop-rest.waiting c.loop-rest.rest.now (c.in_ok-char.char, c.in_ok-char.behind.now) c.loop-rest.invariant some c.in_ok-char.ensures grown)
+
+pub loop-rest-preserved-then-behind-rest : goal.loop-rest-preserved-then-behind-rest
+loop-rest-preserved-then-behind-rest c =
+    let fewer : length c.past_plain-behind.result.now < length c.loop-rest.rest.now = grind arith in
+    let grown : c.push_plain.new.text.items ≡ (c.loop-rest.text.items ++ lone c.loop-rest.waiting) ++ c.before-then-behind-rest.result.now = c.in_ok-push_plain.ensures in
+    spell_past c.args.raw.now c.loop-rest.text.items c.push_plain.new.text.items c.loop-rest.waiting c.loop-rest.rest.now c.past_plain-behind.result.now c.before-then-behind-rest.result.now
+    c.loop-rest.invariant c.past_plain-behind.ensures fewer c.before-then-behind-rest.ensures grown
 
 pub unreachable-requires : goal.unreachable-requires
 unreachable-requires c =
