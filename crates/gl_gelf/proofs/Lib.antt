@@ -3,6 +3,8 @@ pub mod Feeding
 pub mod Numbers
 pub mod Shifting
 pub mod Formed
+pub mod Saying
+pub mod Naming
 pub mod Setting
 pub mod Moments
 pub mod Beginning

@@ -3,6 +3,7 @@ use Rattle.std.proofs.Common.{◌≡◌, ℕ, List, [], ◌∷◌, ◌++◌, suc
 use Rattle.gl_fields.specs.declared.entry.Cause.{Cause}
 use Rattle.gl_fields.specs.declared.field.Field.{Field}
 use Rattle.gl_fields.specs.Fields.{refusal_of}
+use Rattle.std.specs.Cow.{cow_str_bytes}
 use Rattle.std.specs.List.{flat_map, list_any}
 use Rattle.std.proofs.lemmas.List.{drop_more, drop_all}
 use Rattle.gl_fields.specs.declared.entry.Cause.TheVariants as causes
@@ -60,7 +61,7 @@ counted_first : (m : Pair) (ms : List Pair) → flat_map additional (counted (m 
 unfolding counted
 counted_first m ms = counted_more (list_any (has_name m.name) ms) m (counted ms)
 
-flag_at : (ms : List Named) (i : ℕ) (d : Named) (b : Bool) → i < length ms → get_or (are_last (map named_view ms)) i b ≡ not (list_any (has_name (get_or ms i d).name) (map named_view (drop (suc i) ms)))
+flag_at : (ms : List Named) (i : ℕ) (d : Named) (b : Bool) → i < length ms → get_or (are_last (map named_view ms)) i b ≡ not (list_any (has_name (cow_str_bytes (get_or ms i d).name)) (map named_view (drop (suc i) ms)))
 unfolding are_last
 flag_at [] i d b h = absurd (omega arith)
 flag_at (m ∷ ms) zero d b h = refl
@@ -70,9 +71,9 @@ pub additional_step : (ms : List Named) (i : ℕ) (m : Named) (flag : Bool) (las
     → flat_map additional (counted (map named_view (drop i ms))) ≡ cond flag (additional (named_view m)) [] ++ flat_map additional (counted (map named_view (drop (i + 1) ms)))
 additional_step ms i m flag last h m_is last_is flag_is =
     let one : i + 1 ≡ suc i = omega arith in
-    let f : flag ≡ not (list_any (has_name (get_or ms i m).name) (map named_view (drop (suc i) ms))) = flag_is ∙ ap (λ (l : List Bool). get_or l i false) last_is ∙ flag_at ms i m false h in
-    let f2 : flag ≡ not (list_any (has_name m.name) (map named_view (drop (i + 1) ms))) =
-    f ∙ ap (λ (x : Named). not (list_any (has_name x.name) (map named_view (drop (suc i) ms)))) (sym m_is) ∙ ap (λ (n : ℕ). not (list_any (has_name m.name) (map named_view (drop n ms)))) (sym one) in
+    let f : flag ≡ not (list_any (has_name (cow_str_bytes (get_or ms i m).name)) (map named_view (drop (suc i) ms))) = flag_is ∙ ap (λ (l : List Bool). get_or l i false) last_is ∙ flag_at ms i m false h in
+    let f2 : flag ≡ not (list_any (has_name (cow_str_bytes m.name)) (map named_view (drop (i + 1) ms))) =
+    f ∙ ap (λ (x : Named). not (list_any (has_name (cow_str_bytes x.name)) (map named_view (drop (suc i) ms)))) (sym m_is) ∙ ap (λ (n : ℕ). not (list_any (has_name (cow_str_bytes m.name)) (map named_view (drop n ms)))) (sym one) in
     ap (λ (l : List Named). flat_map additional (counted (map named_view l))) (drop_more ms i m h ∙ ap (λ (x : Named). x ∷ drop (i + 1) ms) (sym m_is))
     ∙ counted_first (named_view m) (map named_view (drop (i + 1) ms))
     ∙ ap (λ (b : Bool). cond b (additional (named_view m)) [] ++ flat_map additional (counted (map named_view (drop (i + 1) ms)))) (sym f2)

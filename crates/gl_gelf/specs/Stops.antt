@@ -1,5 +1,6 @@
 -- What a part of decoding answers, beside its definition: memory alone is free.
 use Rattle.std.specs.Prelude.{◌≡◌, ⊤, ℕ, List, Result, Ok, Err}
+use Rattle.std.specs.Cow.{cow_str_bytes}
 use Rattle.gl_fields.specs.declared.entry.Cause.{Cause}
 use Rattle.gl_fields.specs.declared.field.Field.{Field}
 use Rattle.gl_json.specs.declared.refusal.JsonRefusal.{JsonRefusal}
@@ -25,7 +26,7 @@ Makes (Err stops.OutOfMemory) wanted = ⊤
 
 -- a member as the code holds it
 abbrev pub named_view : Named → Pair
-named_view n = record { name = n.name; value = value_view n.value }
+named_view n = record { name = cow_str_bytes n.name; value = value_view n.value }
 
 -- a text is refused so, unless memory ran out
 abbrev pub IsRefusalOf : JsonRefusal → List ℕ → Type 0

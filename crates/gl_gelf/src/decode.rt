@@ -22,6 +22,12 @@ use gl_json::{JsonRefusal, Member, Raw, read_object};
 use std::alloc::{AllocError, Global};
 use std::str;
 
+// How many fields a message has that names nothing but its text.
+const MIN_ROOM: usize = 4;
+
+// Few, since a map may hold fewer fields than its message has members, and is kept for long.
+const MAX_ROOM: usize = 32;
+
 fn some_text(text: String) -> Option<Text>
     ensures { result ≡ some_text (string_bytes text) }
 {
@@ -336,7 +342,7 @@ fn fields_of(alloc: Global, moment: u64, peer: &str, members: &[Named]) -> Resul
         return Err(Stop::Refused(Cause::NoShortMessage));
     };
     let last = members::are_last(alloc, members)?;
-    let mut fields = FieldMap::new(alloc);
+    let mut fields = FieldMap::with_capacity(alloc, members.len().clamp(MIN_ROOM, MAX_ROOM))?;
     put_named(alloc, &mut fields, moment, peer, message, members)?;
     put_all_additional(alloc, &mut fields, members, last.as_slice())?;
     Ok(fields)

@@ -1,26 +1,64 @@
 // The members of a message under the names that they say.
 ghost use Rattle.std.specs.Prelude.{◌≡◌, map, IfOk, IfSome, option_map};
-ghost use Rattle.std.specs.List.{All};
+ghost use Rattle.std.specs.List.{All, list_any};
+ghost use Rattle.std.specs.Str.{bytes_eq};
 ghost use Rattle.std.specs.String.{string_bytes};
+ghost use Rattle.std.specs.Cow.{cow_str_bytes};
 ghost use Rattle.gl_json.specs.Flattening.{IsInside, IsFormed, IsFormedPair};
 ghost use Rattle.gl_json.specs.Views.{value_view, pair_view};
 ghost use Rattle.gl_gelf.specs.Members.{said, with_said_name, value_named, are_last};
 ghost use Rattle.gl_gelf.specs.Stops.{named_view};
 
-use gl_base::Text;
 use gl_json::{JsonRefusal, Member, Raw, unescape};
 use std::alloc::{AllocError, Global};
+use std::borrow::CowStr;
 use std::collections::BTreeMap;
+use std::str;
 
-/// A member under the name that it says.
-#[derive(Debug, Drop)]
+// Up to so many members each name is compared with those behind it.
+const FEW_MEMBERS: usize = 32;
+
+/// A member under the name that it says, which is borrowed where it says what is written.
+#[derive(Drop)]
 pub struct Named<'a> {
-    pub name: Text,
+    pub name: CowStr<'a, Global>,
     pub value: Raw<'a>,
+}
+
+/// What a string says that has no escape: what is written.
+#[tactic(auto, using(crate::proofs::Saying::said_as_written))]
+fn as_written(raw: &[u8]) -> Option<&str>
+    requires { IsInside raw.now }
+    ensures { IfSome result (λ text. text.now ≡ said raw.now) }
+{
+    if raw.contains(&b'\\') {
+        return None;
+    }
+    str::from_utf8(raw).ok()
 }
 
 /// What a string says.
 pub fn said(alloc: Global, raw: &[u8]) -> Result<String, AllocError>
+    requires { IsInside raw.now }
+    ensures { IfOk result (λ s. string_bytes s ≡ said raw.now) }
+{
+    match as_written(raw) {
+        Some(text) => String::from_str(alloc, text),
+        None => unescaped(alloc, raw),
+    }
+}
+
+fn said_name(alloc: Global, raw: &[u8]) -> Result<CowStr<'_, Global>, AllocError>
+    requires { IsInside raw.now }
+    ensures { IfOk result (λ name. cow_str_bytes name ≡ said raw.now) }
+{
+    match as_written(raw) {
+        Some(text) => Ok(CowStr::Borrowed(text)),
+        None => Ok(CowStr::Owned(unescaped(alloc, raw)?)),
+    }
+}
+
+fn unescaped(alloc: Global, raw: &[u8]) -> Result<String, AllocError>
     requires { IsInside raw.now }
     ensures { IfOk result (λ s. string_bytes s ≡ said raw.now) }
 {
@@ -43,9 +81,8 @@ pub fn with_said_names<'a>(
 {
     let mut all = Vec::with_capacity(alloc, members.len())?;
     for member in members {
-        let name = Text::from_string(said(alloc, member.name)?);
         all.push(Named {
-            name,
+            name: said_name(alloc, member.name)?,
             value: member.value,
         })?;
     }
@@ -72,6 +109,34 @@ pub fn value_named<'a>(members: &[Named<'a>], name: &str) -> Option<Raw<'a>>
 
 /// Of each member, whether no later one has its name.
 pub fn are_last(alloc: Global, members: &[Named]) -> Result<Vec<bool>, AllocError>
+    ensures { IfOk result (λ v. v.items ≡ are_last (map named_view members.now)) }
+{
+    if members.len() <= FEW_MEMBERS {
+        few_are_last(alloc, members)
+    } else {
+        many_are_last(alloc, members)
+    }
+}
+
+fn is_any_named(members: &[Named], name: &str) -> bool
+    ensures { result ≡ list_any (λ n. bytes_eq (cow_str_bytes n.name) name.now) members.now }
+{
+    members.iter().any(|member| member.name.as_str() == name)
+}
+
+fn few_are_last(alloc: Global, members: &[Named]) -> Result<Vec<bool>, AllocError>
+    ensures { IfOk result (λ v. v.items ≡ are_last (map named_view members.now)) }
+{
+    let mut last = Vec::with_capacity(alloc, members.len())?;
+    let mut rest = members;
+    while let [member, behind @ ..] = rest {
+        last.push(!is_any_named(behind, member.name.as_str()))?;
+        rest = behind;
+    }
+    Ok(last)
+}
+
+fn many_are_last(alloc: Global, members: &[Named]) -> Result<Vec<bool>, AllocError>
     ensures { IfOk result (λ v. v.items ≡ are_last (map named_view members.now)) }
 {
     let mut seen: BTreeMap<&str, ()> = BTreeMap::new(alloc);
