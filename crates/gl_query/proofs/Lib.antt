@@ -7,7 +7,6 @@ pub mod Endings
 pub mod Complete
 pub mod Texting
 pub mod Covering
-pub mod Decimals
 pub mod Naming
 pub mod Evaluating
 pub mod Sound

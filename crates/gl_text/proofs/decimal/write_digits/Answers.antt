@@ -1,6 +1,6 @@
 use Rattle.std.proofs.Common.{◌+◌, ◌%◌, arith}
-use Rattle.gl_query.proofs.Decimals.{room, more, last, same_len}
-use Rattle.gl_query.proofs.decimal.write_digits.Goals as goal
+use Rattle.gl_text.proofs.Decimals.{room, more, last, same_len}
+use Rattle.gl_text.proofs.decimal.write_digits.Goals as goal
 
 pub overflow_sub-at : goal.overflow_sub-at
 overflow_sub-at c =

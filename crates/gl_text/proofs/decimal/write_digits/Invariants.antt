@@ -1,6 +1,6 @@
 use Rattle.std.proofs.Common.{◌≡◌, ◌≤◌, ◌++◌, ◌^◌, drop, length}
 use Rattle.std.specs.Fmt.{decimal}
-use Rattle.gl_query.proofs.decimal.write_digits.Given as goal
+use Rattle.gl_text.proofs.decimal.write_digits.Given as goal
 
 abbrev pub invariant-loop-rest : goal.invariant-loop-rest
 invariant-loop-rest l =
