@@ -1,0 +1,10 @@
+pub mod Cutting
+pub mod Expandable
+pub mod Finding
+pub mod Meeting
+pub mod Rooms
+pub mod Seeking
+pub mod Spelling
+pub mod Stacking
+pub mod Tables
+pub mod Walking
