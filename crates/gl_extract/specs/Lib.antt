@@ -1,0 +1,5 @@
+pub mod Converting
+pub mod Extraction
+pub mod Objects
+pub mod Refusals
+pub mod Views

@@ -1,0 +1,27 @@
+//! Extractors: fields that are made of the text of another field.
+//!
+//! An `Extractor` is what its parts say, and its parts are always lawful (`specs/Refusals`). `apply` changes a
+//! message's fields to exactly those that `specs/Extraction` defines: a function of the texts of patterns, which
+//! mean what `gl_outside` defines for them, and of the fields. Patterns are built beforehand and lent to it.
+//! Converters are in `specs/Converting`, the fields of a JSON object in `specs/Objects`.
+#![tactic(auto)]
+
+mod built;
+mod convert;
+#[cfg(test)]
+mod convert_tests;
+mod extract;
+#[cfg(test)]
+mod extract_tests;
+mod extractor;
+mod parts;
+mod same;
+mod set_many;
+mod take;
+#[cfg(test)]
+mod tests;
+
+pub use built::Built;
+pub use extract::apply;
+pub use extractor::{ExtractRefusal, Extractor};
+pub use parts::{Condition, Converter, ExtractorKind, ExtractorParts};
