@@ -11,6 +11,8 @@ mod crash_tests;
 #[cfg(test)]
 mod decoded_tests;
 #[cfg(test)]
+mod extracted_tests;
+#[cfg(test)]
 mod opening_tests;
 #[cfg(test)]
 mod playing;
