@@ -21,9 +21,9 @@ use Rattle.gl_json.specs.Views.{field_view}
 use Rattle.gl_json.proofs.ElementRead.{elements_complete}
 use Rattle.gl_json.proofs.SaidRead.{said_only}
 use Rattle.gl_json.proofs.ValueRead.{member_complete, value_complete}
-use Rattle.gl_json.proofs.Whole.{object_only}
+use Rattle.gl_json.proofs.Whole.{object_found, object_only}
 use Rattle.gl_extract.specs.Objects.{text_or_nothing, said, member_fields, members_fields, of_members, nested_fields, of_object, object_fields}
-use Rattle.gl_extract.specs.Views.{field_of_pair}
+use Rattle.gl_extract.specs.Views.{field_of, field_of_pair}
 
 -- what a string says
 
@@ -43,9 +43,6 @@ said_is : (raw name : List ℕ) → Says raw name → name ≡ said raw
 said_is raw name s = s.said ∙ sym (ap text_or_nothing (said_in raw s.cs s.are s.written (text_of raw) refl))
 
 -- fields of members
-
-abbrev pub field_of : List ℕ × Held → Field
-field_of p = record { name = p.0; value = p.1 }
 
 kept_is : (inner : List ℕ → List ℕ → List Field) (prefix name : List ℕ) (v : Value) (f : Held) → IsKept v f → member_fields inner prefix name v ≡ field_of (prefix ++ name, f) ∷ []
 unfolding member_fields
@@ -88,6 +85,18 @@ nested_is (suc n) prefix t gs is =
 views_are : (ps : List (String Global × Held)) → map field_of_pair ps ≡ map field_of (map field_view ps)
 views_are [] = refl
 views_are (p ∷ ps) = ap (λ (l : List Field). field_of_pair p ∷ l) (views_are ps)
+
+pub object_law : (text : List ℕ) (ms : List Pair) (fs : List (List ℕ × Held)) → IsObjectText text ms → AreFlat 63 [] ms fs → object_fields text ≡ map field_of fs
+unfolding object_fields
+object_law text ms fs is flat = ap of_object (object_only text ms is) ∙ sym (flat_is (nested_fields 63) (IsFlatIn 63) (nested_is 63) [] ms fs flat)
+
+none_by : (text : List ℕ) → ((ms : List Pair) → IsObjectText text ms → ⊥) → (r : Result (List Pair) JsonRefusal) → object_of text ≡ r → of_object r ≡ []
+none_by text none (Ok ms) e = absurd (none ms (object_found text ms e))
+none_by text none (Err refusal) e = refl
+
+pub none_law : (text : List ℕ) → ((ms : List Pair) → IsObjectText text ms → ⊥) → object_fields text ≡ []
+unfolding object_fields
+none_law text none = none_by text none (object_of text) refl
 
 pub object_is : (text : List ℕ) (ms : List Pair) (ps : List (String Global × Held)) → IsObjectText text ms → AreFlat 63 [] ms (map field_view ps) → map field_of_pair ps ≡ object_fields text
 unfolding object_fields
