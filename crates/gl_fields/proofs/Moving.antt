@@ -143,6 +143,6 @@ some_same e = cc
 pub tells : (cause : Option (Result Bool FieldRefusal)) (otherwise : Type 0) (result answer : Result Bool FieldRefusal) → cause ≡ Some answer → result ≡ answer → MatchOption cause otherwise (λ a. result ≡ a)
 tells cause otherwise result answer e is = rw e is
 
-pub settles_done : (cause : Option FieldRefusal) → Refuses {X = Unit {0}} cause (Ok tt) → MatchOption (refused cause) (true ≡ true) (λ (answer : Result Bool FieldRefusal). Ok true ≡ answer)
-settles_done None h = refl
-settles_done (Some r) h = absurd cc
+pub settles_done : (cause : Option FieldRefusal) (size : ℕ) → Refuses {X = ℕ} cause (Ok size) → MatchOption (refused cause) (true ≡ true) (λ (answer : Result Bool FieldRefusal). Ok true ≡ answer)
+settles_done None size h = refl
+settles_done (Some r) size h = absurd cc

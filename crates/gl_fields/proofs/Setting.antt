@@ -1,7 +1,7 @@
 -- The map with a field put in: its length, its size, and that it is a map.
-use Rattle.std.proofs.Common.{◌≡◌, ℕ, ◌+◌, ◌-◌, ◌<◌, ◌≤◌, Bool, true, false, not, cond, ltb, List, [], ◌∷◌, ◌++◌, length, take, drop, get_or, filter, refl, sym, ◌∙◌, ap, subst, arith, length-append, add-one, Option, Some, None, codes, ◌&&◌}
+use Rattle.std.proofs.Common.{◌≡◌, ℕ, ◌+◌, ◌-◌, ◌<◌, ◌≤◌, Bool, true, false, not, cond, ltb, List, [], ◌∷◌, ◌++◌, length, take, drop, get_or, filter, refl, sym, ◌∙◌, ap, subst, arith, length-append, add-one, Option, Some, None, Ok, Err, codes, ◌&&◌}
 use Rattle.std.proofs.Math.ListN.{set}
-use Rattle.std.specs.List.{HoldsAt, insert}
+use Rattle.std.specs.List.{HoldsAt, insert, remove}
 use Rattle.std.specs.Str.{bytes_eq}
 use Rattle.std.proofs.lemmas.List.{length-take, length-drop, set_split}
 use Rattle.std.proofs.lemmas.List.Elements.{All-cons, All-append, All-filter, filter_passes}
@@ -11,7 +11,7 @@ use Rattle.gl_fields.specs.declared.field.Field.{Field}
 use Rattle.gl_fields.specs.declared.field.FieldRefusal.{FieldRefusal}
 use Rattle.gl_fields.specs.declared.field.FieldRefusal.TheVariants.{BadFieldName, TooManyFields, TooLarge, Reserved}
 use Rattle.gl_fields.specs.Fields.{comes_before, with_field, field_size, counted_size, refusal_of, is_field_name, is_text, IsValue, IsField, IsFieldMap}
-use Rattle.gl_fields.specs.Places.{Parts}
+use Rattle.gl_fields.specs.Places.{Parts, unless_refused}
 use Rattle.gl_fields.proofs.Names.{before-trans}
 use Rattle.gl_fields.proofs.Rising.{Rises-joined, Rises-filter}
 use Rattle.gl_fields.proofs.Placing.{Named, with_field-new, with_field-old, around_one}
@@ -61,6 +61,12 @@ size-split fields at d lt =
     ∙ sum_by-append field_size (take at fields) (get_or fields at d ∷ drop (at + 1) fields)
     ∙ ap (λ (n : ℕ). counted_size (take at fields) + n) (sum_by-cons field_size (get_or fields at d) (drop (at + 1) fields))
 
+pub size-removed : (fields : List Field) (at : ℕ) (d : Field) → at < length fields → counted_size fields ≡ counted_size (remove fields at) + field_size (get_or fields at d)
+size-removed fields at d lt =
+    let rest : counted_size (remove fields at) ≡ counted_size (take at fields) + counted_size (drop (at + 1) fields) =
+    ap (λ (n : ℕ). counted_size (take at fields ++ drop n fields)) (sym (add-one at)) ∙ sum_by-append field_size (take at fields) (drop (at + 1) fields) in
+    omega (arith, size-split fields at d lt, rest)
+
 pub size-at : (name : List ℕ) (field : Field) (fields : List Field) (at : ℕ) (d : Field) → field.name ≡ name → Parts name fields at (at + 1) → HoldsAt (Named name) fields at
     → counted_size (with_field field fields) ≡ counted_size fields - field_size (get_or fields at d) + field_size field
 size-at name field fields at d e parts same =
@@ -97,6 +103,14 @@ fine-from false reserved many large e = cc
 
 pub none-from : (named reserved many large : Bool) → Fine named reserved many large → first_cause named reserved many large ≡ None
 none-from named reserved many large fine = rw (fine.is_named, fine.not_reserved, fine.not_many, fine.not_large) refl
+
+pub sized : (cause : Option FieldRefusal) (size n : ℕ) → Ok n ≡ unless_refused cause size → (cause ≡ None) × (n ≡ size)
+sized None size n e = (refl, cc)
+sized (Some r) size n e = absurd cc
+
+pub refused_so : (cause : Option FieldRefusal) (size : ℕ) (r : FieldRefusal) → Err r ≡ unless_refused cause size → cause ≡ Some r
+refused_so None size r e = absurd cc
+refused_so (Some s) size r e = cc
 
 abbrev pub is_reserved : Field → Bool
 is_reserved field = bytes_eq field.name (codes "timestamp") && is_text field.value

@@ -1,8 +1,8 @@
 ghost use Rattle.std.specs.Prelude.{◌≡◌, ◌==◌, [], true, length, IfOk, OnOk, OnErr, IfErr, MatchOption, MatchResult, option_copied};
 ghost use Rattle.gl_fields.specs.declared.field.FieldRefusal.TheVariants.{OutOfMemory};
-ghost use Rattle.gl_fields.specs.Fields.{value_of, value_text, with_field, refusal_of, without, removal, renamed, settled, is_text, IsValue, IsFieldMap};
+ghost use Rattle.gl_fields.specs.Fields.{value_of, value_text, with_field, refusal_of, without, removal, renamed, settled, is_text, counted_size, IsValue, IsFieldMap};
 
-use crate::place::{position_of, put, refusal, stays};
+use crate::place::{position_of, put, remove_at, size_with, stays};
 use crate::rename::rename_at;
 use crate::size::signed_decimal_len;
 use gl_base::Text;
@@ -41,19 +41,21 @@ pub enum FieldRefusal {
 #[derive(Debug, Drop)]
 pub struct FieldMap {
     fields: Vec<Field>,
+    /// How many bytes count of them.
+    size: usize,
 }
 
 impl Model for FieldMap {
-    ghost use Rattle.std.specs.Prelude.{List};
+    ghost use Rattle.std.specs.Prelude.{◌≡◌, List};
     ghost use Rattle.gl_fields.specs.declared.field.Field.{Field};
 
     ghost Value = { List Field };
 
     ghost view = { λ m. m.fields.items };
 
-    ghost use Rattle.gl_fields.specs.Fields.{IsFieldMap};
+    ghost use Rattle.gl_fields.specs.Fields.{IsFieldMap, counted_size};
 
-    ghost invariant = { λ m. IsFieldMap m.fields.items };
+    ghost invariant = { λ m. IsFieldMap m.fields.items × (m.size ≡ counted_size m.fields.items) };
 }
 
 impl From<AllocError> for FieldRefusal {
@@ -125,6 +127,7 @@ impl FieldMap {
     {
         FieldMap {
             fields: Vec::new(alloc),
+            size: 0,
         }
     }
 
@@ -133,15 +136,16 @@ impl FieldMap {
         ensures { IfOk result (λ m. m ≡ []) }
     {
         let fields = Vec::with_capacity(alloc, capacity)?;
-        Ok(FieldMap { fields })
+        Ok(FieldMap { fields, size: 0 })
     }
 
-    /// The map of these fields.
-    pub(crate) fn from_fields(fields: Vec<Field>) -> FieldMap
-        requires { IsFieldMap fields.items }
+    /// The map of these fields, which count `size` bytes.
+    pub(crate) fn from_fields(fields: Vec<Field>, size: usize) -> FieldMap
+        requires map { IsFieldMap fields.items }
+        requires size { size ≡ counted_size fields.items }
         ensures { result ≡ fields.items }
     {
-        FieldMap { fields }
+        FieldMap { fields, size }
     }
 
     /// How many fields there are, at most 256.
@@ -185,10 +189,9 @@ impl FieldMap {
         ensures cause { MatchOption (refusal_of (record { name = name.now; value = value }) self.old) (IfErr result (λ e. e ≡ OutOfMemory)) (λ r. result ≡ Err r) }
     {
         let place = position_of(self.fields.as_slice(), name);
-        if let Some(cause) = refusal(self.fields.as_slice(), place, name, &value) {
-            return Err(cause);
-        }
+        let size = size_with(self.fields.as_slice(), self.size, place, name, &value)?;
         put(&mut self.fields, place, name, value)?;
+        self.size = size;
         Ok(())
     }
 
@@ -206,7 +209,8 @@ impl FieldMap {
                 if stays(name) {
                     return Err(FieldRefusal::Reserved);
                 }
-                self.fields.remove(at);
+                let size = remove_at(&mut self.fields, self.size, at);
+                self.size = size;
                 Ok(true)
             }
             Err(_) => Ok(false),
@@ -233,7 +237,8 @@ impl FieldMap {
                 if stays(from) {
                     return Err(FieldRefusal::Reserved);
                 }
-                rename_at(&mut self.fields, at, from, to)?;
+                let size = rename_at(&mut self.fields, self.size, at, from, to)?;
+                self.size = size;
                 Ok(true)
             }
             Err(_) => Ok(false),
@@ -245,7 +250,10 @@ impl FieldMap {
         ensures { IfOk result (λ m. m ≡ self.now) }
     {
         let fields = copy_fields(*self.fields.allocator(), self.fields.as_slice())?;
-        Ok(FieldMap { fields })
+        Ok(FieldMap {
+            fields,
+            size: self.size,
+        })
     }
 }
 

@@ -1,10 +1,10 @@
 // The place of a field in a map, and what may not be put there.
-ghost use Rattle.std.specs.Prelude.{◌≡◌, ◌+◌, ◌<◌, ◌≤◌, ◌&&◌, nat_lt, length, slice_set, slice_index_or, codes, OnOk, OnErr};
+ghost use Rattle.std.specs.Prelude.{◌≡◌, ◌+◌, ◌<◌, ◌≤◌, ◌&&◌, nat_lt, length, slice_set, slice_index_or, codes, IfOk, OnOk, OnErr};
 ghost use Rattle.std.specs.Str.{bytes_eq};
 ghost use Rattle.gl_fields.specs.declared.field.Field.{Field};
-ghost use Rattle.std.specs.List.{insert, list_all};
-ghost use Rattle.gl_fields.specs.Fields.{is_name_byte, is_field_name, is_text, refusal_of, field_size, counted_size, with_field, stays, IsValue, IsFieldMap};
-ghost use Rattle.gl_fields.specs.Places.{IsPlaceOf};
+ghost use Rattle.std.specs.List.{insert, remove, list_all};
+ghost use Rattle.gl_fields.specs.Fields.{is_name_byte, is_field_name, is_text, field_size, counted_size, with_field, stays, IsValue, IsFieldMap};
+ghost use Rattle.gl_fields.specs.Places.{IsPlaceOf, size_within, size_with};
 
 use crate::{Field, FieldRefusal, Value, size};
 use gl_base::Text;
@@ -71,61 +71,74 @@ fn is_too_many(fields: &[Field], place: Result<usize, usize>, name: &str) -> boo
     }
 }
 
-/// How many bytes count of the fields beside the one at this place.
-fn size_beside(fields: &[Field], place: Result<usize, usize>, name: &str) -> usize
+/// How many bytes count of the fields beside the one at this place, of fields that count `size`.
+fn size_beside(fields: &[Field], size: usize, place: Result<usize, usize>, name: &str) -> usize
     requires place { IsPlaceOf name.now fields.now place }
-    requires short { counted_size fields.now ≤ 2097152 }
+    requires size { size ≡ counted_size fields.now }
+    requires short { size ≤ 2097152 }
     ensures size { (field : Field) → field.name ≡ name.now → counted_size (with_field field fields.now) ≡ result + field_size field }
     ensures short { result ≤ 2097152 }
 {
-    let all = size::counted_size(fields);
     match place {
-        Ok(at) => all - size::field_size(&fields[at]),
-        Err(_) => all,
+        Ok(at) => size - size::field_size(&fields[at]),
+        Err(_) => size,
     }
 }
 
-/// Whether the map with this field would count too many bytes.
-fn is_too_large(fields: &[Field], place: Result<usize, usize>, name: &str, value: &Value) -> bool
-    requires place { IsPlaceOf name.now fields.now place }
-    requires short { counted_size fields.now ≤ 2097152 }
-    requires name { length name.now < 256 }
-    ensures value { result ≡ nat_lt 2097152 (counted_size (with_field (record { name = name.now; value = value.now }) fields.now)) }
-    ensures lawful { IsValue value.now }
-{
-    let kept = size_beside(fields, place, name);
-    let text = value.text_len();
-    if text > MAX_SIZE {
-        return true;
-    }
-    kept + name.len() + text > MAX_SIZE
-}
-
-/// Why this field isn't put into the map, where its name has this place.
-pub fn refusal(
+/// How many bytes count of the fields with this one, where they aren't too many.
+fn size_within(
     fields: &[Field],
+    size: usize,
     place: Result<usize, usize>,
     name: &str,
     value: &Value,
-) -> Option<FieldRefusal>
+) -> Option<usize>
     requires place { IsPlaceOf name.now fields.now place }
-    requires short { counted_size fields.now ≤ 2097152 }
-    ensures cause { result ≡ refusal_of (record { name = name.now; value = value.now }) fields.now }
-    ensures lawful { result ≡ None → IsValue value.now }
+    requires size { size ≡ counted_size fields.now }
+    requires short { size ≤ 2097152 }
+    requires name { length name.now < 256 }
+    ensures size { result ≡ size_within (counted_size (with_field (record { name = name.now; value = value.now }) fields.now)) }
+    ensures lawful { IsValue value.now }
+{
+    let text = value.text_len();
+    if text > MAX_SIZE {
+        return None;
+    }
+    let sum = size_beside(fields, size, place, name) + name.len() + text;
+    if sum > MAX_SIZE {
+        return None;
+    }
+    Some(sum)
+}
+
+/// How many bytes count of the fields with this one, whose name has this place, or why it isn't put in. The fields
+/// count `size`.
+pub fn size_with(
+    fields: &[Field],
+    size: usize,
+    place: Result<usize, usize>,
+    name: &str,
+    value: &Value,
+) -> Result<usize, FieldRefusal>
+    requires place { IsPlaceOf name.now fields.now place }
+    requires size { size ≡ counted_size fields.now }
+    requires short { size ≤ 2097152 }
+    ensures answer { result ≡ size_with (record { name = name.now; value = value.now }) fields.now }
+    ensures lawful { IfOk result (λ _. IsValue value.now) }
 {
     if !is_field_name(name) {
-        return Some(FieldRefusal::BadFieldName);
+        return Err(FieldRefusal::BadFieldName);
     }
     if is_reserved(name, value) {
-        return Some(FieldRefusal::Reserved);
+        return Err(FieldRefusal::Reserved);
     }
     if is_too_many(fields, place, name) {
-        return Some(FieldRefusal::TooManyFields);
+        return Err(FieldRefusal::TooManyFields);
     }
-    if is_too_large(fields, place, name, value) {
-        return Some(FieldRefusal::TooLarge);
+    match size_within(fields, size, place, name, value) {
+        Some(size) => Ok(size),
+        None => Err(FieldRefusal::TooLarge),
     }
-    None
 }
 
 /// Puts a field in at the place of its name, or in the place of the field that is there.
@@ -166,4 +179,16 @@ fn insert_at(fields: &mut Vec<Field>, at: usize, name: &str, value: Value) -> Re
     }
     fields.insert(at, Field { name, value })?;
     Ok(())
+}
+
+/// Takes the field at this place away, and tells how many bytes the others count. With it they count `size`.
+pub fn remove_at(fields: &mut Vec<Field>, size: usize, at: usize) -> usize
+    requires place { at < length fields.old.items }
+    requires size { size ≡ counted_size fields.old.items }
+    requires short { size ≤ 2097152 }
+    ensures items { fields.new.items ≡ remove fields.old.items at }
+    ensures size { result ≡ counted_size fields.new.items }
+{
+    let field = fields.remove(at);
+    size - size::field_size(&field)
 }

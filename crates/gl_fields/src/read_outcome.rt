@@ -168,7 +168,7 @@ fn fields_at(alloc: Global, count: u16, bytes: &[u8]) -> Result<(FieldMap, &[u8]
         fields.push(field)?;
         rest = after;
     }
-    Ok((FieldMap::from_fields(fields), rest))
+    Ok((FieldMap::from_fields(fields, size), rest))
 }
 
 #[tactic(auto, unfolding(crate::specs::Reading::field_at))]

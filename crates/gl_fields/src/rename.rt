@@ -7,32 +7,37 @@ ghost use Rattle.gl_fields.specs.declared.field.FieldRefusal.TheVariants.{OutOfM
 ghost use Rattle.gl_fields.specs.Fields.{value_of, with_field, without, renamed, refusal_of, counted_size, IsFieldMap};
 ghost use Rattle.gl_fields.specs.Places.{IsPlaceOf};
 
-use crate::place::{position_of, refusal};
+use crate::place::{position_of, size_with};
+use crate::size::field_size;
 use crate::{Field, FieldRefusal, Value};
 use gl_base::Text;
 
-/// Gives the field at this place another name, and takes the field of that name away. A refusal changes
-/// nothing.
+/// Gives the field at this place another name, and takes the field of that name away. Tells how many bytes the fields
+/// count then, which counted `size`. A refusal changes nothing.
 pub fn rename_at(
     fields: &mut Vec<Field>,
+    size: usize,
     at: usize,
     from: &str,
     to: &str,
-) -> Result<(), FieldRefusal>
+) -> Result<usize, FieldRefusal>
     requires map { IsFieldMap fields.old.items }
+    requires size { size ≡ counted_size fields.old.items }
     requires place { IsPlaceOf from.now fields.old.items (Ok at) }
     ensures ok { OnOk result (fields.new.items ≡ renamed from.now to.now fields.old.items) }
     ensures err { OnErr result (fields.new.items ≡ fields.old.items) }
     ensures map { IsFieldMap fields.new.items }
+    ensures size { IfOk result (λ n. n ≡ counted_size fields.new.items) }
     ensures cause { (value : Value) → value_of from.now fields.old.items ≡ Some value → MatchOption (refusal_of (record { name = to.now; value = value }) (without from.now fields.old.items)) (IfErr result (λ e. e ≡ OutOfMemory)) (λ r. result ≡ Err r) }
 {
     let field = fields.remove(at);
+    let rest = size - field_size(&field);
     let place = position_of(fields.as_slice(), to);
-    match name_for(fields, place, to, &field.value) {
-        Ok(name) => {
+    match name_for(fields, rest, place, to, &field.value) {
+        Ok((name, size)) => {
             let value = field.value;
             put_within(fields, place, Field { name, value });
-            Ok(())
+            Ok(size)
         }
         Err(cause) => {
             insert_within(fields, at, field);
@@ -41,22 +46,24 @@ pub fn rename_at(
     }
 }
 
-/// The name of a field that holds this, where nothing refuses the field.
+/// The name of a field that holds this, and how many bytes the fields count with it, where nothing refuses the field.
 fn name_for(
     fields: &Vec<Field>,
+    size: usize,
     place: Result<usize, usize>,
     name: &str,
     value: &Value,
-) -> Result<Text, FieldRefusal>
+) -> Result<(Text, usize), FieldRefusal>
     requires place { IsPlaceOf name.now fields.now.items place }
-    requires short { counted_size fields.now.items ≤ 2097152 }
-    ensures name { IfOk result (λ t. t ≡ name.now) }
+    requires size { size ≡ counted_size fields.now.items }
+    requires short { size ≤ 2097152 }
+    ensures name { IfOk result (λ x. x.0 ≡ name.now) }
+    ensures size { IfOk result (λ x. x.1 ≡ counted_size (with_field (record { name = name.now; value = value.now }) fields.now.items)) }
     ensures cause { MatchOption (refusal_of (record { name = name.now; value = value.now }) fields.now.items) (IfErr result (λ e. e ≡ OutOfMemory)) (λ r. result ≡ Err r) }
 {
-    if let Some(cause) = refusal(fields.as_slice(), place, name, value) {
-        return Err(cause);
-    }
-    Ok(Text::from_str(*fields.allocator(), name)?)
+    let size = size_with(fields.as_slice(), size, place, name, value)?;
+    let name = Text::from_str(*fields.allocator(), name)?;
+    Ok((name, size))
 }
 
 /// Puts a field in at the place of its name, or in the place of the field that is there.

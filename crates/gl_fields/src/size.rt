@@ -1,7 +1,7 @@
 // How many bytes a field counts.
 ghost use Rattle.std.specs.Prelude.{◌≡◌, ◌≤◌, length};
 ghost use Rattle.std.specs.Fmt.{decimal, signed_decimal};
-ghost use Rattle.gl_fields.specs.Fields.{field_size, counted_size};
+ghost use Rattle.gl_fields.specs.Fields.{field_size};
 
 use crate::Field;
 
@@ -33,16 +33,4 @@ pub fn field_size(field: &Field) -> usize
     ensures { result ≡ field_size field.now }
 {
     field.name.len() + field.value.text_len()
-}
-
-/// How many bytes count of these fields.
-pub fn counted_size(fields: &[Field]) -> usize
-    requires { counted_size fields.now ≤ 2097152 }
-    ensures { result ≡ counted_size fields.now }
-{
-    let mut size = 0;
-    for field in fields {
-        size += field_size(field);
-    }
-    size
 }

@@ -52,8 +52,8 @@ loop-preserved c =
       so_far = rw c.in_ok-push.ensures.items (goes_on field_at c.args.count c.loop.counter c.loop.fields.items c.loop.rest.now c.in_ok-field.field c.in_ok-field.after.now (many_at field_at c.args.count [] c.args.bytes.now) c.loop-test.true read c.loop.invariant.so_far);
     }
 
-pub from_fields-requires : goal.from_fields-requires
-from_fields-requires c =
+pub from_fields-requires-clause-map : goal.from_fields-requires-clause-map
+from_fields-requires-clause-map c =
     let read = is_done field_at c.args.count c.loop.counter c.loop.fields.items c.loop.rest.now (many_at field_at c.args.count [] c.args.bytes.now) c.loop-test.false c.loop.invariant.so_far in
     fields_map c.args.count c.args.bytes.now c.loop.fields.items c.loop.rest.now (λ i. omega (arith, c.type_inv.bytes i)) c.requires read
 

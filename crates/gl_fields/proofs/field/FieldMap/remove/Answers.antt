@@ -10,13 +10,15 @@ returns-then-stays-clause-answer c =
 
 pub invariant_of-self : goal.invariant_of-self
 invariant_of-self c =
-    let p = rw c.as_slice.ensures.value at c.in-Ok.ensures in
-    rw (c.remove.ensures.items, removed c.args.name.now c.self.inside.fields.items c.in-Ok.at p.0 p.1) (IsFieldMap-without c.args.name.now c.self.inside.fields.items c.self.invariant)
+    let p = rw c.as_slice.ensures.value at c.in-Ok.ensures in (
+      rw (c.remove_at-size.ensures.items, removed c.args.name.now c.self.inside.fields.items c.in-Ok.at p.0 p.1) (IsFieldMap-without c.args.name.now c.self.inside.fields.items c.self.invariant.0),
+      c.remove_at-size.ensures.size,
+    )
 
 pub returns-else-stays-clause-ok : goal.returns-else-stays-clause-ok
 returns-else-stays-clause-ok c =
     let p = rw c.as_slice.ensures.value at c.in-Ok.ensures in
-    c.remove.ensures.items ∙ removed c.args.name.now c.self.inside.fields.items c.in-Ok.at p.0 p.1 ∙ ap (without c.args.name.now) c.self.view_is
+    c.remove_at-size.ensures.items ∙ removed c.args.name.now c.self.inside.fields.items c.in-Ok.at p.0 p.1 ∙ ap (without c.args.name.now) c.self.view_is
 
 pub returns-else-stays-clause-answer : goal.returns-else-stays-clause-answer
 returns-else-stays-clause-answer c =

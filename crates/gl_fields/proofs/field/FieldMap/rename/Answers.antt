@@ -27,28 +27,28 @@ returns-then-stays-clause-answer c =
     tells (settled c.args.from.now c.args.to.now c.args.self.now) (Reserved ≡ OutOfMemory) (Err Reserved) (Err Reserved)
     (settled-stays c.args.from.now c.args.self.now c.in-Ok.at p.0 p.1 c.args.to.now (sym c.if-eq.ensures) (sym c.if-stays.ensures)) refl
 
-pub returns-in_err-rename_at-in-Ok-clause-answer :
-    goal.returns-in_err-rename_at-in-Ok-clause-answer
-returns-in_err-rename_at-in-Ok-clause-answer c =
+pub returns-in_err-size-in-Ok-clause-answer :
+    goal.returns-in_err-size-in-Ok-clause-answer
+returns-in_err-size-in-Ok-clause-answer c =
     let p = rw (c.as_slice.ensures.value, c.self.view_is) at c.in-Ok.ensures in
     let q = err_from_is_err_and c.from_residual.result c.from_residual.ensures.1 in
     let value : Value = (get_or c.args.self.now c.in-Ok.at any_field).value in
     let held : value_of c.args.from.now c.args.self.now ≡ Some value = value_there c.args.from.now c.args.self.now c.in-Ok.at p.0 p.1 any_field in
-    let cause = rw c.self.view_is at (c.in_err-rename_at-in-Ok.ensures.cause) in
+    let cause = rw c.self.view_is at (c.in_err-size-in-Ok.ensures.cause) in
     let moves = settled-moves c.args.from.now c.args.self.now c.in-Ok.at p.0 p.1 c.args.to.now value held (sym c.if-eq.ensures) (sym c.if-stays.ensures) in
     subst (λ (o : Option (Result Bool FieldRefusal)). MatchOption o (MatchResult c.from_residual.result (λ there. there ≡ true) (λ e. e ≡ OutOfMemory)) (λ answer. c.from_residual.result ≡ answer)) (sym moves)
-    (settles_refused (Unit {0}) c.in_err-rename_at-in-Ok.field-0.0 (refusal_of (record { name = c.args.to.now; value = value }) (without c.args.from.now c.args.self.now)) c.from_residual.result
+    (settles_refused ℕ c.in_err-size-in-Ok.field-0.0 (refusal_of (record { name = c.args.to.now; value = value }) (without c.args.from.now c.args.self.now)) c.from_residual.result
     (q.1 ∙ ap (λ (e : FieldRefusal). Err e) q.2) (cause value held))
 
-pub returns-in_ok-rename_at-in-Ok-clause-answer : goal.returns-in_ok-rename_at-in-Ok-clause-answer
-returns-in_ok-rename_at-in-Ok-clause-answer c =
+pub returns-in_ok-size-in-Ok-clause-answer : goal.returns-in_ok-size-in-Ok-clause-answer
+returns-in_ok-size-in-Ok-clause-answer c =
     let p = rw (c.as_slice.ensures.value, c.self.view_is) at c.in-Ok.ensures in
     let value : Value = (get_or c.args.self.now c.in-Ok.at any_field).value in
     let held : value_of c.args.from.now c.args.self.now ≡ Some value = value_there c.args.from.now c.args.self.now c.in-Ok.at p.0 p.1 any_field in
-    let cause = rw c.self.view_is at (c.in_ok-rename_at-in-Ok.ensures.cause) in
+    let cause = rw c.self.view_is at (c.in_ok-size-in-Ok.ensures.cause) in
     let moves = settled-moves c.args.from.now c.args.self.now c.in-Ok.at p.0 p.1 c.args.to.now value held (sym c.if-eq.ensures) (sym c.if-stays.ensures) in
     subst (λ (o : Option (Result Bool FieldRefusal)). MatchOption o (true ≡ true) (λ answer. Ok true ≡ answer)) (sym moves)
-    (settles_done (refusal_of (record { name = c.args.to.now; value = value }) (without c.args.from.now c.args.self.now)) (cause value held))
+    (settles_done (refusal_of (record { name = c.args.to.now; value = value }) (without c.args.from.now c.args.self.now)) c.in_ok-size-in-Ok.size (cause value held))
 
 pub returns-in-Err-clause-ok : goal.returns-in-Err-clause-ok
 returns-in-Err-clause-ok c =
