@@ -6,6 +6,7 @@ use Rattle.gl_fields.specs.declared.field.Field.{Field}
 use Rattle.gl_fields.specs.declared.field.FieldRefusal.{FieldRefusal}
 use Rattle.gl_fields.specs.declared.field.Value.TheVariants.{Text}
 use Rattle.gl_fields.specs.Fields.{value_of, value_text, with_field, refusal_of}
+use Rattle.gl_fields.specs.Putting.{text_field}
 use Rattle.gl_outside.specs.Patterns.{is_found, group_in, named_in}
 use Rattle.gl_text.specs.Texts.{contains, piece, characters}
 use Rattle.gl_extract.specs.declared.built.Built.{Built}
@@ -50,9 +51,6 @@ set_or_left field fields = unless (refusal_of field fields) fields (with_field f
 
 abbrev pub set_all : List Field → List Field → List Field
 set_all given fields = fold (λ kept field. set_or_left field kept) fields given
-
-abbrev pub text_field : List ℕ → List ℕ → Field
-text_field name text = record { name = name; value = Text text }
 
 -- Of these fields some first ones are set, before these that are left.
 pub record HaveBegun (given left old new : List Field) : Type 0 where

@@ -21,7 +21,8 @@ use Rattle.gl_gelf.specs.declared.stop.Stop.{Stop}
 use Rattle.gl_gelf.specs.declared.stop.Stop.TheVariants as stops
 use Rattle.gl_gelf.specs.Members.{has_name, counted, are_last, value_named}
 use Rattle.gl_gelf.specs.Stops.{Sets, Makes, named_view, IsRefusalOf}
-use Rattle.gl_gelf.specs.Decoding.{set_one, then_set, set_all, additional, source, timestamp, level, full_message, named_fields, text_field, short_message, fields_behind, fields_of}
+use Rattle.gl_fields.specs.Putting.{text_field}
+use Rattle.gl_gelf.specs.Decoding.{set_one, then_set, set_all, additional, source, timestamp, level, full_message, named_fields, short_message, fields_behind, fields_of}
 
 then_assoc : (xs ys : List Field) (r : Result (List Field) Cause) → ((m : List Field) → set_all (xs ++ ys) m ≡ then_set (set_all ys) (set_all xs m)) → then_set (set_all (xs ++ ys)) r ≡ then_set (set_all ys) (then_set (set_all xs) r)
 then_assoc xs ys (Ok m) h = h m

@@ -8,8 +8,9 @@ use Rattle.gl_fields.specs.declared.field.Field.{Field}
 use Rattle.gl_fields.specs.declared.field.FieldRefusal.{FieldRefusal}
 use Rattle.gl_fields.specs.declared.field.FieldRefusal.TheVariants as refusals
 use Rattle.gl_fields.specs.declared.field.Value.{Value as Held}
-use Rattle.gl_fields.specs.declared.field.Value.TheVariants.{Text, Whole}
+use Rattle.gl_fields.specs.declared.field.Value.TheVariants.{Text}
 use Rattle.gl_fields.specs.Fields.{is_field_name, refusal_of, with_field}
+use Rattle.gl_fields.specs.Putting.{text_field, whole_field}
 use Rattle.gl_json.specs.declared.refusal.JsonRefusal.{JsonRefusal}
 use Rattle.gl_json.specs.declared.refusal.JsonRefusal.TheVariants as json
 use Rattle.gl_json.specs.Grammar.{Value, text, number, yes_, no_, null, object, array, Pair}
@@ -53,12 +54,6 @@ unfoldable pub level : Option Value → ℤ
 level (Some (number literal)) = unwrap_or (whole_in literal) (pos 1)
 level (Some (text raw)) = unwrap_or (whole_in (said raw)) (pos 1)
 level other = pos 1
-
-abbrev pub text_field : List ℕ → List ℕ → Field
-text_field name held = record { name = name; value = Text held }
-
-abbrev pub whole_field : List ℕ → ℤ → Field
-whole_field name held = record { name = name; value = Whole held }
 
 -- `full_message`, where it is a string
 unfoldable pub full_message : Option Value → List Field

@@ -10,7 +10,8 @@ ghost use Rattle.gl_json.specs.Places.{object_of};
 ghost use Rattle.gl_json.specs.Views.{value_view, pair_view};
 ghost use Rattle.gl_gelf.specs.Members.{with_said_name, counted, are_last, value_named};
 ghost use Rattle.gl_gelf.specs.Stops.{named_view, Sets, Makes, IsRefusalOf};
-ghost use Rattle.gl_gelf.specs.Decoding.{is_compressed, some_text, short_message, source, timestamp, level, full_message, held, is_named, field_name, is_taken, additional, set_all, named_fields, text_field, whole_field, fields_of, of_object, gelf_fields};
+ghost use Rattle.gl_fields.specs.Putting.{text_field, whole_field};
+ghost use Rattle.gl_gelf.specs.Decoding.{is_compressed, some_text, short_message, source, timestamp, level, full_message, held, is_named, field_name, is_taken, additional, set_all, named_fields, fields_of, of_object, gelf_fields};
 
 use crate::members::{self, Named, said};
 use crate::moment::moment_of;

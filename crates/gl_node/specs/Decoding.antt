@@ -1,39 +1,21 @@
 -- What an entry becomes: one message at a time, under the configuration of its version.
 use Rattle.std.specs.Prelude.{ℕ, List, [], ◌∷◌, codes, pos, map, take, drop, ◌++◌, length, Option, Some, None, Result, Ok, Err}
-use Rattle.std.specs.List.{fold}
 use Rattle.std.specs.Str.Lossy.{utf8_lossy}
 use Rattle.gl_fields.specs.declared.field.Field.{Field}
 use Rattle.gl_fields.specs.declared.field.Value.TheVariants.{Text, Whole}
-use Rattle.gl_fields.specs.declared.field.FieldRefusal.{FieldRefusal}
-use Rattle.gl_fields.specs.declared.field.FieldRefusal.TheVariants.{TooManyFields as TooManyNames}
 use Rattle.gl_fields.specs.declared.entry.Message.{Message as Payload}
 use Rattle.gl_fields.specs.declared.entry.Entry.{Entry}
 use Rattle.gl_fields.specs.declared.entry.Entry.TheVariants.{Admin, Message}
 use Rattle.gl_fields.specs.declared.entry.Cause.{Cause}
-use Rattle.gl_fields.specs.declared.entry.Cause.TheVariants.{TooManyFields, TooLarge}
 use Rattle.gl_fields.specs.declared.entry.Outcome.{Outcome}
 use Rattle.gl_fields.specs.declared.entry.Outcome.TheVariants.{Applied, Stored, Undecodable}
-use Rattle.gl_fields.specs.Fields.{with_field, refusal_of}
+use Rattle.gl_fields.specs.Putting.{map_with}
 use Rattle.gl_fields.specs.declared.input_kind.InputKind.{InputKind}
 use Rattle.gl_fields.specs.declared.input_kind.InputKind.TheVariants.{Raw, Gelf, Syslog}
 use Rattle.gl_gelf.specs.Decoding.{gelf_fields}
 use Rattle.gl_syslog.specs.Decoding.{decoded_syslog}
 use Rattle.gl_node.specs.declared.config.Config.{Config}
 use Rattle.gl_node.specs.Configuration.{config_at, kind_of}
-
--- a field put into a map, or the cause that a refusal gives
-abbrev pub put_or_cause : Field → List Field → Option FieldRefusal → Result (List Field) Cause
-put_or_cause field fields None = Ok (with_field field fields)
-put_or_cause field fields (Some TooManyNames) = Err TooManyFields
-put_or_cause field fields (Some refusal) = Err TooLarge
-
-abbrev pub then_put : Result (List Field) Cause → Field → Result (List Field) Cause
-then_put (Err cause) field = Err cause
-then_put (Ok fields) field = put_or_cause field fields (refusal_of field fields)
-
--- the map with these fields put in, in order, or the first cause
-abbrev pub map_with : List Field → Result (List Field) Cause
-map_with fields = fold then_put (Ok []) fields
 
 -- the fields of a raw message, in the order in which they are put: the payload as lossy UTF-8, the peer, the receive moment
 abbrev pub raw_fields : Payload → List Field

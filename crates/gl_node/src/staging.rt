@@ -3,7 +3,8 @@ ghost use Rattle.std.specs.Prelude.{◌≡◌, ◌≤◌, IfOk, map};
 ghost use Rattle.std.specs.List.{All};
 ghost use Rattle.gl_fields.specs.Bounds.{IsOutcome};
 ghost use Rattle.gl_node.specs.declared.staging.DecodeFault.TheVariants.{OutOfMemory};
-ghost use Rattle.gl_node.specs.Decoding.{decoded_as, map_with, outcome_under, raw_fields};
+ghost use Rattle.gl_fields.specs.Putting.{map_with};
+ghost use Rattle.gl_node.specs.Decoding.{decoded_as, outcome_under, raw_fields};
 ghost use Rattle.gl_node.specs.Staging.{IsDecoded, fault_of};
 
 use crate::arriving::MAX_PAYLOAD;

@@ -10,7 +10,8 @@ use Rattle.gl_syslog.specs.declared.fields.Undecoded.{Undecoded}
 use Rattle.gl_syslog.specs.declared.fields.Undecoded.TheVariants.{For, OutOfMemory}
 use Rattle.gl_syslog.specs.declared.parts.Element.{Element}
 use Rattle.gl_syslog.specs.declared.content.Content.{Content}
-use Rattle.gl_syslog.specs.Decoding.{text_field, whole_field, field_if, facility_name, parameter_field, element_fields, content_of, fields_of, then_put, map_with, decoded_syslog}
+use Rattle.gl_fields.specs.Putting.{text_field, whole_field, then_put, map_with}
+use Rattle.gl_syslog.specs.Decoding.{field_if, facility_name, parameter_field, element_fields, content_of, fields_of, decoded_syslog}
 use Rattle.gl_syslog.specs.Putting.{◌>>=◌, Fails, put_in, put_common, put_in_order}
 
 pub stays : (cause : Cause) (fs : List Field) → fold then_put (Err cause) fs ≡ Err cause

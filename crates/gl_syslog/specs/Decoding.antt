@@ -1,15 +1,12 @@
 -- The fields of a payload of syslog. Their names, and which of them are put, are this project's.
-use Rattle.std.specs.Prelude.{ℕ, ◌/◌, ◌%◌, ℤ, pos, List, [], ◌∷◌, ◌++◌, map, Option, Some, None, Result, Ok, Err, if◌then◌else◌, codes, slice_index_or}
-use Rattle.std.specs.List.{fold, flat_map}
+use Rattle.std.specs.Prelude.{ℕ, ◌/◌, ◌%◌, pos, List, [], ◌∷◌, ◌++◌, map, Option, Some, None, Result, if◌then◌else◌, codes, slice_index_or}
+use Rattle.std.specs.List.{flat_map}
 use Rattle.std.specs.Option.{unwrap_or}
 use Rattle.std.specs.Str.Lossy.{utf8_lossy}
 use Rattle.gl_fields.specs.declared.field.Field.{Field}
-use Rattle.gl_fields.specs.declared.field.Value.TheVariants.{Text, Whole}
-use Rattle.gl_fields.specs.declared.field.FieldRefusal.{FieldRefusal}
-use Rattle.gl_fields.specs.declared.field.FieldRefusal.TheVariants.{TooManyFields as TooManyNames}
 use Rattle.gl_fields.specs.declared.entry.Cause.{Cause}
-use Rattle.gl_fields.specs.declared.entry.Cause.TheVariants.{TooManyFields, TooLarge}
-use Rattle.gl_fields.specs.Fields.{with_field, refusal_of, is_name_byte}
+use Rattle.gl_fields.specs.Fields.{is_name_byte}
+use Rattle.gl_fields.specs.Putting.{text_field, whole_field, map_with}
 use Rattle.gl_syslog.specs.declared.parts.Element.{Element}
 use Rattle.gl_syslog.specs.declared.parts.Parts.{Parts}
 use Rattle.gl_syslog.specs.declared.bsd.BsdParts.{BsdParts}
@@ -82,12 +79,6 @@ content_of moment peer text = content_by moment peer text (parts_of text) (bsd_p
 
 -- the fields, in the order in which they are put
 
-abbrev pub text_field : List ℕ → List ℕ → Field
-text_field name text = record { name = name; value = Text text }
-
-abbrev pub whole_field : List ℕ → ℤ → Field
-whole_field name number = record { name = name; value = Whole number }
-
 abbrev pub field_if : List ℕ → Option (List ℕ) → List Field
 field_if name None = []
 field_if name (Some text) = text_field name text ∷ []
@@ -116,22 +107,6 @@ fields_of c =
     ∷ (field_if (codes "application_name") c.application_name
     ++ (field_if (codes "process_id") c.process_id
     ++ (field_if (codes "message_id") c.message_id ++ flat_map element_fields c.elements)))
-
--- the map that they make
-
--- a field put into a map, or the cause that a refusal gives
-abbrev pub put_or_cause : Field → List Field → Option FieldRefusal → Result (List Field) Cause
-put_or_cause field fields None = Ok (with_field field fields)
-put_or_cause field fields (Some TooManyNames) = Err TooManyFields
-put_or_cause field fields (Some refusal) = Err TooLarge
-
-abbrev pub then_put : Result (List Field) Cause → Field → Result (List Field) Cause
-then_put (Err cause) field = Err cause
-then_put (Ok fields) field = put_or_cause field fields (refusal_of field fields)
-
--- the map with these fields put in, in order, or the first cause
-abbrev pub map_with : List Field → Result (List Field) Cause
-map_with fields = fold then_put (Ok []) fields
 
 -- what a payload is decoded to that came from this peer at this moment
 unfoldable pub decoded_syslog : ℕ → List ℕ → List ℕ → Result (List Field) Cause

@@ -9,7 +9,8 @@ use Rattle.gl_fields.specs.declared.entry.Cause.TheVariants.{TooManyFields, TooL
 use Rattle.gl_syslog.specs.declared.content.Content.{Content}
 use Rattle.gl_syslog.specs.declared.fields.Undecoded.{Undecoded}
 use Rattle.gl_syslog.specs.declared.fields.Undecoded.TheVariants.{For, OutOfMemory}
-use Rattle.gl_syslog.specs.Decoding.{text_field, whole_field, field_if, facility_name, element_fields, then_put}
+use Rattle.gl_fields.specs.Putting.{text_field, whole_field, then_put}
+use Rattle.gl_syslog.specs.Decoding.{field_if, facility_name, element_fields}
 
 -- what a map's refusal gives
 abbrev pub undecoded_of : FieldRefusal → Undecoded

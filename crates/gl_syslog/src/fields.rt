@@ -4,7 +4,8 @@ ghost use Rattle.std.specs.String.{string_bytes};
 ghost use Rattle.std.specs.List.{fold, flat_map};
 ghost use Rattle.gl_fields.specs.declared.field.Field.{Field};
 ghost use Rattle.gl_syslog.specs.declared.fields.Undecoded.TheVariants.{OutOfMemory};
-ghost use Rattle.gl_syslog.specs.Decoding.{facility_name, text_field, whole_field, field_if, allowed, parameter_name, parameter_field, element_fields, then_put};
+ghost use Rattle.gl_fields.specs.Putting.{text_field, whole_field, then_put};
+ghost use Rattle.gl_syslog.specs.Decoding.{facility_name, field_if, allowed, parameter_name, parameter_field, element_fields};
 ghost use Rattle.gl_syslog.specs.Putting.{IsPut, IsDecoded, put_in, put_common, put_in_order, undecoded_of};
 
 use crate::Element;

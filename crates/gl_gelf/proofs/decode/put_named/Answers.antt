@@ -3,7 +3,8 @@ use Rattle.gl_fields.specs.declared.field.Field.{Field}
 use Rattle.std.proofs.lemmas.Result.{err_from_is_err_and}
 use Rattle.gl_json.specs.Views.{value_view}
 use Rattle.gl_gelf.specs.Stops.{named_view, Sets}
-use Rattle.gl_gelf.specs.Decoding.{set_all, named_fields, text_field, full_message}
+use Rattle.gl_fields.specs.Putting.{text_field}
+use Rattle.gl_gelf.specs.Decoding.{set_all, named_fields, full_message}
 use Rattle.gl_gelf.proofs.Setting.{sets_err, sets_ok, named_is}
 use Rattle.gl_gelf.proofs.decode.put_named.Goals as goal
 

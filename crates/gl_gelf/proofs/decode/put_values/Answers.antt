@@ -1,6 +1,6 @@
 use Rattle.std.proofs.Common.{[], ◌∷◌, codes}
 use Rattle.std.proofs.lemmas.Result.{err_from_is_err_and}
-use Rattle.gl_gelf.specs.Decoding.{text_field}
+use Rattle.gl_fields.specs.Putting.{text_field}
 use Rattle.gl_gelf.proofs.Setting.{sets_err, sets_ok}
 use Rattle.gl_gelf.proofs.decode.put_values.Goals as goal
 

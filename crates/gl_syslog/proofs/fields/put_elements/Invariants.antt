@@ -1,6 +1,7 @@
 use Rattle.std.proofs.Common.{◌≡◌, drop, Ok}
 use Rattle.std.specs.List.{fold, flat_map}
-use Rattle.gl_syslog.specs.Decoding.{element_fields, then_put}
+use Rattle.gl_fields.specs.Putting.{then_put}
+use Rattle.gl_syslog.specs.Decoding.{element_fields}
 use Rattle.gl_syslog.proofs.fields.put_elements.Given as goal
 
 abbrev pub invariant-loop-element : goal.invariant-loop-element

@@ -1,6 +1,7 @@
 use Rattle.std.proofs.Common.{◌≡◌, map, drop, Ok}
 use Rattle.std.specs.List.{fold}
-use Rattle.gl_syslog.specs.Decoding.{parameter_field, then_put}
+use Rattle.gl_fields.specs.Putting.{then_put}
+use Rattle.gl_syslog.specs.Decoding.{parameter_field}
 use Rattle.gl_syslog.proofs.fields.put_parameters.Given as goal
 
 abbrev pub invariant-loop-name : goal.invariant-loop-name
