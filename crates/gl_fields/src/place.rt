@@ -31,13 +31,20 @@ pub fn position_of(fields: &[Field], name: &str) -> Result<usize, usize>
 fn is_name_byte(b: u8) -> bool
     ensures { result ≡ is_name_byte b }
 {
-    matches!(b, b'a'..=b'z' | b'A'..=b'Z' | b'0'..=b'9' | b'_' | b'.' | b'-')
+    b.is_ascii_alphanumeric() | (b == b'_') | (b == b'.') | (b == b'-')
 }
 
+/// Whether all bytes may stand in a name. Each is tested, so that no test waits for another.
 fn has_name_bytes(name: &[u8]) -> bool
     ensures { result ≡ list_all is_name_byte name.now }
 {
-    name.iter().all(|b| is_name_byte(*b))
+    let mut all = true;
+    let mut rest = name;
+    while let [byte, behind @ ..] = rest {
+        all &= is_name_byte(*byte);
+        rest = behind;
+    }
+    all
 }
 
 /// Whether a field may have this name: 1 to 255 letters, digits, `_`, `.` and `-`, and not `_id`.

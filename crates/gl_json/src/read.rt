@@ -10,6 +10,9 @@ use crate::refusal::{Halt, JsonRefusal};
 use crate::value::{self, Member};
 use std::alloc::Global;
 
+// Room for as many members is taken at once, which is enough for most objects.
+const USUAL_MEMBERS: usize = 16;
+
 /// How deep values nest inside the outer object.
 pub const LEVELS: u32 = 63;
 
@@ -71,11 +74,11 @@ pub fn members_at(
 ) -> Result<(Vec<Member<'_>>, &[u8]), Halt>
     ensures { Halts (λ x. (map pair_view x.0.items, x.1.now)) result (elements_at (member_at (value_at levels)) 125 bytes.now) }
 {
-    let mut members = Vec::new(alloc);
     let mut rest = bytes::trimmed(bytes);
     if bytes::next_is(rest, b'}') {
-        return Ok((members, bytes::behind_first(rest)));
+        return Ok((Vec::new(alloc), bytes::behind_first(rest)));
     }
+    let mut members = Vec::with_capacity(alloc, USUAL_MEMBERS)?;
     loop {
         let (member, behind) = value::member_at(rest, levels)?;
         members.push(member)?;
