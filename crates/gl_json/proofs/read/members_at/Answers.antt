@@ -14,18 +14,18 @@ returns-then-next_is c =
     let here : next_is 125 (trimmed c.args.bytes.now) ≡ true = ap (next_is 125) (sym same) ∙ sym c.next_is.ensures ∙ c.if-next_is.true in
     collect_none (member_at (value_at c.args.levels)) 125 c.args.bytes.now here
     ∙ ap (λ (l : List ℕ). (let r : Read (List Pair) = Ok ([], l) in r)) (ap behind_first (sym same) ∙ sym c.behind_first.ensures)
-    ∙ ap (λ (ms : List Pair). (let r : Read (List Pair) = Ok (ms, c.behind_first.result.now) in r)) (sym (ap (map pair_view) c.new-members.ensures.items))
+    ∙ ap (λ (ms : List Pair). (let r : Read (List Pair) = Ok (ms, c.behind_first.result.now) in r)) (sym (ap (map pair_view) c.new.ensures.items))
 
 pub loop-members-init : goal.loop-members-init
 loop-members-init c =
     let same = c.trimmed-rest.ensures in
     let none : next_is 125 (trimmed c.args.bytes.now) ≡ false = ap (next_is 125) (sym same) ∙ sym c.next_is.ensures ∙ c.if-next_is.false in
-    subst (λ (ms : List Pair). Collecting (member_at (value_at c.args.levels)) 125 (elements_at (member_at (value_at c.args.levels)) 125 c.args.bytes.now) ms c.trimmed-rest.result.now) (sym (ap (map pair_view) c.new-members.ensures.items))
+    subst (λ (ms : List Pair). Collecting (member_at (value_at c.args.levels)) 125 (elements_at (member_at (value_at c.args.levels)) 125 c.args.bytes.now) ms c.trimmed-rest.result.now) (sym (ap (map pair_view) c.in_ok-members.ensures.items))
     (subst (Collecting (member_at (value_at c.args.levels)) 125 (elements_at (member_at (value_at c.args.levels)) 125 c.args.bytes.now) []) (sym same) (collect_starts (member_at (value_at c.args.levels)) 125 c.args.bytes.now none))
 
 pub returns-in_err-member : goal.returns-in_err-member
 returns-in_err-member c =
-    let p = err_from_is_err_and c.from_residual.result c.from_residual.ensures.1 in
+    let p = err_from_is_err_and c.from_residual-in_err-member.result c.from_residual-in_err-member.ensures.1 in
     rw (p.1, p.2) (collect_stop (member_at (value_at c.args.levels)) 125 (elements_at (member_at (value_at c.args.levels)) 125 c.args.bytes.now) (map pair_view c.loop-members.members.items) c.loop-members.rest.now c.in_err-member.field-0.0 c.loop-members.invariant c.in_err-member.ensures)
 
 pub returns-in_err-more : goal.returns-in_err-more
