@@ -78,6 +78,15 @@ keeps_set now id set a b x s is k = record {
   of_ended = k.of_ended;
 }
 
+pub keeps_open : (now id : ℕ) (set : ChunkSet) (a b : tree.BTreeMap ℕ ChunkSet) (x : tree.BTreeMap ℕ ℕ) (s : Standing) → Tells opened now (tree.get nat_cmp b) (λ q. cond (eq_by_cmp nat_cmp id q) (Some set) (tree.get nat_cmp a q))
+    → Keeps now a x s → Keeps now b x (with_set s id set)
+keeps_open now id set a b x s told k = record {
+  now_is = k.now_is;
+  of_sets = λ m q le. told m q le ∙ tells_put opened now id (Some set) (tree.get nat_cmp a) (finite.get s.sets) (λ p. cond (eq_by_cmp nat_cmp id p) (Some set) (tree.get nat_cmp a p)) (finite.get (finite.insert s.sets id set)) (λ p. refl)
+      (λ p. finite.get-insert nat_cmp_total s.sets id set p) k.of_sets m q le;
+  of_ended = k.of_ended;
+}
+
 pub keeps_end : (now id : ℕ) (a b : tree.BTreeMap ℕ ChunkSet) (x y : tree.BTreeMap ℕ ℕ) (s : Standing) → ((q : ℕ) → tree.get nat_cmp b q ≡ cond (eq_by_cmp nat_cmp id q) None (tree.get nat_cmp a q))
     → ((q : ℕ) → tree.get nat_cmp y q ≡ cond (eq_by_cmp nat_cmp id q) (Some now) (tree.get nat_cmp x q)) → Keeps now a x s → Keeps now b y (with_end s id)
 keeps_end now id a b x y s gone put k = record {
@@ -87,8 +96,8 @@ keeps_end now id a b x y s gone put k = record {
       (λ q. finite.get-insert nat_cmp_total s.ended id s.now q ∙ ap (λ (n : ℕ). cond (eq_by_cmp nat_cmp q id) (Some n) (finite.get s.ended q)) k.now_is) k.of_ended;
 }
 
-pub keeps_less_sets : (now : ℕ) (a b : tree.BTreeMap ℕ ChunkSet) (x : tree.BTreeMap ℕ ℕ) (s : Standing) → ((q : ℕ) → tree.get nat_cmp b q ≡ while_live opened now (tree.get nat_cmp a q)) → Keeps now a x s → Keeps now b x s
-keeps_less_sets now a b x s is k = record { now_is = k.now_is; of_sets = tells_less opened now (tree.get nat_cmp a) (finite.get s.sets) (tree.get nat_cmp b) is k.of_sets; of_ended = k.of_ended }
+pub keeps_less_sets : (now : ℕ) (a b : tree.BTreeMap ℕ ChunkSet) (x : tree.BTreeMap ℕ ℕ) (s : Standing) → Tells opened now (tree.get nat_cmp b) (tree.get nat_cmp a) → Keeps now a x s → Keeps now b x s
+keeps_less_sets now a b x s told k = record { now_is = k.now_is; of_sets = λ m q le. told m q le ∙ k.of_sets m q le; of_ended = k.of_ended }
 
 pub keeps_less_ended : (now : ℕ) (a : tree.BTreeMap ℕ ChunkSet) (x y : tree.BTreeMap ℕ ℕ) (s : Standing) → ((q : ℕ) → tree.get nat_cmp y q ≡ while_live at_itself now (tree.get nat_cmp x q)) → Keeps now a x s → Keeps now a y s
 keeps_less_ended now a x y s is k = record { now_is = k.now_is; of_sets = k.of_sets; of_ended = tells_less at_itself now (tree.get nat_cmp x) (finite.get s.ended) (tree.get nat_cmp y) is k.of_ended }

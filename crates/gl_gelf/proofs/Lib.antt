@@ -10,3 +10,4 @@ pub mod Moments
 pub mod Beginning
 pub mod Keeping
 pub mod Messages
+pub mod Indexing

@@ -7,3 +7,5 @@ pub mod Decoding
 pub mod Stops
 pub mod Digits
 pub mod Growing
+pub mod Openings
+pub mod Rows

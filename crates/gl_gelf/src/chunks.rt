@@ -2,26 +2,20 @@
 // (`Keeps`); what isn't live may be gone from it, so that discarding changes no answer.
 ghost use Rattle.std.specs.Prelude.{◌≡◌, ◌≤◌, ◌<◌, ◌+◌, ◌++◌, [], ◌∷◌, ℕ, List, length, drop, nat_le, nat_lt, cond, Option, Some, None, is_some, IfOk, OnOk, OnErr, IfSome, IfNone, if◌then◌else◌};
 ghost use Rattle.std.specs.Option.{option_copied};
-ghost use Rattle.std.specs.List.{filter};
 ghost use Rattle.std.specs.Ordering.{nat_cmp, eq_by_cmp};
-ghost use Rattle.std.specs.FinMap as map;
-ghost use Rattle.std.specs.BTreeMap.{get, values, IsOrdered, IsUnchanged};
+ghost use Rattle.std.specs.BTreeMap.{get, IsUnchanged};
 ghost use Rattle.gl_gelf.specs.declared.chunk_set.ChunkSet.{ChunkSet};
-ghost use Rattle.gl_gelf.specs.Chunks.{chunk_head, begins_as_chunk, while_live, opened, at_itself, live_sets, with_part, beside, with_end, joined, chunk_turn, turn_by, Standing, Tells, Keeps, StandsFor, chunk_answer};
+ghost use Rattle.gl_gelf.specs.Chunks.{chunk_head, begins_as_chunk, while_live, opened, at_itself, with_part, beside, with_end, joined, chunk_turn, turn_by, Standing, Tells, Keeps, StandsFor, chunk_answer};
 ghost use Rattle.gl_gelf.specs.declared.chunks.Chunked.TheVariants as answers;
 ghost use Rattle.gl_gelf.specs.Growing.{grown_turn, Fits};
+ghost use Rattle.gl_gelf.specs.Openings.{HasRoom};
 
 use crate::chunk::chunk_head;
 use crate::chunk_set::{ChunkSet, message_with};
+use crate::sets::{MAX_SETS, Sets, is_live};
 use gl_base::Items;
 use std::alloc::{AllocError, Global};
 use std::collections::BTreeMap;
-
-/// How many milliseconds a set is live from its first chunk on, and a message is remembered that has ended.
-const LIFE: u64 = 5_000;
-
-/// The most sets that are live at once.
-const MAX_SETS: usize = 1_024;
 
 /// The most bytes of data in a set.
 const MAX_DATA: usize = 1_048_576;
@@ -65,7 +59,7 @@ pub struct Chunks {
     alloc: Global,
     /// The greatest moment that was given.
     now: u64,
-    sets: BTreeMap<u64, ChunkSet>,
+    sets: Sets,
     /// When each message ended.
     ended: BTreeMap<u64, u64>,
     /// At how many ended messages the old ones are discarded.
@@ -80,7 +74,7 @@ impl Chunks {
         Chunks {
             alloc,
             now: 0,
-            sets: BTreeMap::new(alloc),
+            sets: Sets::new(alloc),
             ended: BTreeMap::new(alloc),
             room: MAX_SETS,
         }
@@ -143,7 +137,7 @@ impl Chunks {
                 self.add(now, id, number, grown)
             }
             None => {
-                if is_full(&self.sets, now) {
+                if self.sets.is_full(now) {
                     return Ok(Chunked::ChunkTableFull);
                 }
                 let set = ChunkSet::new(self.alloc, now, count)?;
@@ -171,7 +165,7 @@ impl Chunks {
                 Ok(Chunked::Whole(bytes))
             }
             Grown::Lacks(part) => {
-                put_part(&mut self.sets, id, number, part);
+                self.sets.put_part(id, number, part);
                 Ok(Chunked::Held)
             }
         }
@@ -188,6 +182,9 @@ impl Chunks {
     ) -> Result<Chunked, AllocError>
         requires number { number < length set.parts }
         requires fits { Fits set grown }
+        requires opened { set.opened ≡ now }
+        requires new { while_live opened now (get nat_cmp self.old.sets id) ≡ None }
+        requires room { HasRoom now self.old.sets }
         ensures ok { IfOk result (λ answer. (s : Standing) → Keeps now self.old.sets self.old.ended s
             → (answer ≡ (grown_turn s id set number grown).0) × Keeps now self.new.sets self.new.ended (grown_turn s id set number grown).1) }
         ensures err { OnErr result (IsUnchanged self.old.sets self.new.sets × IsUnchanged self.old.ended self.new.ended) }
@@ -205,7 +202,7 @@ impl Chunks {
             Grown::Lacks(part) => {
                 let mut set = set;
                 set.put(number, part);
-                self.sets.insert(id, set)?;
+                self.sets.open(now, id, set)?;
                 Ok(Chunked::Held)
             }
         }
@@ -218,19 +215,17 @@ impl Chunks {
         ensures now { self.new.now ≡ self.old.now }
     {
         self.ended.insert(id, now)?;
-        self.sets.remove(&id);
+        self.sets.remove(id);
         Ok(())
     }
 
-    /// Discards the sets that aren't live, once more are kept than can be live, and the ended messages that are old, once
-    /// they are as many as others.
+    /// Discards the oldest set, where it isn't live (a datagram opens one at most), and the ended messages that are old,
+    /// once they are as many as others.
     fn discard(&mut self, now: u64)
         ensures kept { (s : Standing) → Keeps now self.old.sets self.old.ended s → Keeps now self.new.sets self.new.ended s }
         ensures now { self.new.now ≡ self.old.now }
     {
-        if self.sets.len() > MAX_SETS {
-            discard_sets(&mut self.sets, now);
-        }
+        self.sets.discard(now);
         if self.ended.len() > self.room {
             discard_ended(&mut self.ended, now);
             self.room = self.ended.len().saturating_mul(2).max(MAX_SETS);
@@ -248,13 +243,6 @@ fn no_chunk(bytes: &[u8]) -> Chunked
     Chunked::BadChunk
 }
 
-/// Whether what began at a moment is 5,000 ms old at most.
-fn is_live(now: u64, since: u64) -> bool
-    ensures { result ≡ nat_le now (since + 5000) }
-{
-    now.saturating_sub(LIFE) <= since
-}
-
 fn has_ended(ended: &BTreeMap<u64, u64>, now: u64, id: u64) -> bool
     ensures { result ≡ is_some (while_live at_itself now (get nat_cmp ended.now id)) }
 {
@@ -264,10 +252,10 @@ fn has_ended(ended: &BTreeMap<u64, u64>, now: u64, id: u64) -> bool
     }
 }
 
-fn live_set(sets: &BTreeMap<u64, ChunkSet>, now: u64, id: u64) -> Option<&ChunkSet>
+fn live_set(sets: &Sets, now: u64, id: u64) -> Option<&ChunkSet>
     ensures { option_copied result ≡ while_live opened now (get nat_cmp sets.now id) }
 {
-    match sets.get(&id) {
+    match sets.get(id) {
         Some(set) => {
             if !is_live(now, set.opened) {
                 return None;
@@ -307,39 +295,6 @@ fn grow(alloc: Global, set: &ChunkSet, number: u8, part: &[u8]) -> Result<Grown,
         Some(bytes) => Ok(Grown::Whole(bytes)),
         None => Ok(Grown::Lacks(Items::from_slice(alloc, part)?)),
     }
-}
-
-fn live_len(sets: &BTreeMap<u64, ChunkSet>, now: u64) -> usize
-    ensures len { result ≡ length (filter (λ set. nat_le now (set.opened + 5000)) (values sets.now)) }
-    ensures ordered { IsOrdered nat_cmp sets.now }
-{
-    sets.values().filter(|set| is_live(now, set.opened)).count()
-}
-
-/// Whether as many sets are live as can be.
-fn is_full(sets: &BTreeMap<u64, ChunkSet>, now: u64) -> bool
-    ensures { (all : map.FinMap nat_cmp ChunkSet) → Tells opened now (get nat_cmp sets.now) (map.get all) → result ≡ nat_le 1024 (map.len (live_sets now all)) }
-{
-    if sets.len() < MAX_SETS {
-        return false;
-    }
-    live_len(sets, now) >= MAX_SETS
-}
-
-fn put_part(sets: &mut BTreeMap<u64, ChunkSet>, id: u64, number: u8, part: Items<u8>)
-    requires { IfSome (get nat_cmp sets.old id) (λ set. (number < length set.parts) × (set.len + length part ≤ 1048576)) }
-    ensures { (set : ChunkSet) → get nat_cmp sets.old id ≡ Some set
-        → (q : ℕ) → get nat_cmp sets.new q ≡ cond (eq_by_cmp nat_cmp id q) (Some (with_part set number part)) (get nat_cmp sets.old q) }
-{
-    if let Some(set) = sets.get_mut(&id) {
-        set.put(number, part);
-    }
-}
-
-fn discard_sets(sets: &mut BTreeMap<u64, ChunkSet>, now: u64)
-    ensures { (id : ℕ) → get nat_cmp sets.new id ≡ while_live opened now (get nat_cmp sets.old id) }
-{
-    sets.retain(|_, set| is_live(now, set.opened));
 }
 
 fn discard_ended(ended: &mut BTreeMap<u64, u64>, now: u64)

@@ -27,6 +27,7 @@ mod frames_law;
 mod members;
 mod moment;
 mod number;
+mod sets;
 mod stop;
 #[cfg(test)]
 mod tests;

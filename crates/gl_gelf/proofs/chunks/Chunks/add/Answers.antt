@@ -16,5 +16,5 @@ returns-in_ok-end-in-Whole-clause-ok c = λ s set k e.
 
 pub returns-in-Lacks-clause-ok : goal.returns-in-Lacks-clause-ok
 returns-in-Lacks-clause-ok c = λ s set k e.
-    subst (λ (g : Grown). Turns c.args.now c.put_part.new.sets c.args.self.now.ended answers.Held (grown_turn s c.args.id set c.args.number g)) (sym c.in-Lacks.is)
-    (refl, keeps_set c.args.now c.args.id (with_part set c.args.number c.in-Lacks.part) c.args.self.now.sets c.put_part.new.sets c.args.self.now.ended s (c.put_part.ensures set e) k)
+    subst (λ (g : Grown). Turns c.args.now c.put_part.new.self c.args.self.now.ended answers.Held (grown_turn s c.args.id set c.args.number g)) (sym c.in-Lacks.is)
+    (refl, keeps_set c.args.now c.args.id (with_part set c.args.number c.in-Lacks.part) c.args.self.now.sets c.put_part.new.self c.args.self.now.ended s (c.put_part.ensures set e) k)

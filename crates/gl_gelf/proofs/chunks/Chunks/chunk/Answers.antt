@@ -20,7 +20,7 @@ returns-in-Some-beside-clause-ok c = λ s k.
 pub returns-then-is_full-clause-ok : goal.returns-then-is_full-clause-ok
 returns-then-is_full-clause-ok c = λ s k.
     chunk_full c.args.now c.args.id c.args.number c.args.count c.args.part.now c.args.self.now.sets c.args.self.now.ended s
-    (sym c.has_ended.ensures ∙ c.if-has_ended.false) (sym c.in-None.ensures) (sym (c.is_full.ensures s.sets k.of_sets) ∙ c.if-is_full.true) k
+    (sym c.has_ended.ensures ∙ c.if-has_ended.false) (sym c.in-None.ensures) (sym (c.is_full.ensures.full s.sets k.of_sets) ∙ c.if-is_full.true) k
 
 pub returns-in_ok-grown-in-Some-clause-ok : goal.returns-in_ok-grown-in-Some-clause-ok
 returns-in_ok-grown-in-Some-clause-ok c =
@@ -36,5 +36,5 @@ returns-in_ok-grown-in-None-clause-ok c =
     IfOk-weaker c.open.result _ _ (λ answer h. λ s k.
     chunk_opens c.args.now c.args.id c.args.number c.args.count c.args.part.now c.args.self.now.sets c.open.new.self.sets c.args.self.now.ended c.open.new.self.ended s answer
     (grown_turn s c.args.id c.in_ok-set-in-None.set c.args.number c.in_ok-grown-in-None.grown)
-    (sym c.has_ended.ensures ∙ c.if-has_ended.false) (sym c.in-None.ensures) (sym (c.is_full.ensures s.sets k.of_sets) ∙ c.if-is_full.false) k
+    (sym c.has_ended.ensures ∙ c.if-has_ended.false) (sym c.in-None.ensures) (sym (c.is_full.ensures.full s.sets k.of_sets) ∙ c.if-is_full.false) k
     (ap (λ (set : ChunkSet). joined s c.args.id (with_part set c.args.number c.args.part.now)) (sym c.in_ok-set-in-None.ensures) ∙ c.in_ok-grown-in-None.ensures.turn s c.args.id) (h s k)) c.open.ensures.ok
