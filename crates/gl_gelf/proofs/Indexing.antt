@@ -1,7 +1,7 @@
 -- The openings stay exactly those of the sets, and the first of them tells whether all sets are live.
-use Rattle.std.proofs.Common.{◌≡◌, ◌≤◌, ◌<◌, ℕ, ◌+◌, Bool, true, false, cond, T, ◌&&◌, List, [], ◌∷◌, length, is_some, IsSomeAnd, IfSome, Option, Some, None, refl, sym, ap, subst, ◌∙◌, ⊎_elim, arith}
+use Rattle.std.proofs.Common.{◌≡◌, ◌≤◌, ◌<◌, ℕ, ◌+◌, Bool, true, false, cond, T, ◌&&◌, List, [], ◌∷◌, length, is_some, IfSome, Option, Some, None, refl, sym, ap, subst, ◌∙◌, ⊎_elim, arith}
 use Rattle.std.specs.Prelude.{nat_le, ◌==◌}
-use Rattle.std.specs.List.{filter, All, list_any}
+use Rattle.std.specs.List.{filter, All}
 use Rattle.std.specs.declared.cmp.Ordering.{Ordering}
 use Rattle.std.specs.declared.cmp.Ordering.TheVariants.{Less, Equal, Greater}
 use Rattle.std.specs.Ordering.{nat_cmp, ordering_then, eq_by_cmp, is_eq, is_gt}
@@ -19,8 +19,8 @@ use Rattle.std.proofs.lemmas.Bool.Decides.{nat_tests}
 use Rattle.gl_fields.proofs.Placing.{filter-all}
 use Rattle.gl_gelf.specs.declared.chunk_set.ChunkSet.{ChunkSet}
 use Rattle.gl_gelf.specs.declared.sets.Opening.{Opening}
-use Rattle.gl_gelf.specs.Chunks.{while_live, opened, with_part, live_sets, Tells}
-use Rattle.gl_gelf.specs.Openings.{opening_cmp, is_opened_at, IsIndexed, HasStale, HasRoom}
+use Rattle.gl_gelf.specs.Chunks.{opened, with_part, live_sets, Tells}
+use Rattle.gl_gelf.specs.Openings.{opening_cmp, is_opened_at, IsIndexed, HasStale}
 use Rattle.gl_gelf.proofs.Keeping.{few_pass, live_len_is}
 
 -- ---- equal openings
@@ -96,20 +96,8 @@ cond_itself : (b : Bool) → cond b true false ≡ b
 cond_itself true = refl
 cond_itself false = refl
 
--- a set is taken out with its opening
-pub exact_out : (id : ℕ) (set : ChunkSet) (f g : ℕ → Option ChunkSet) (c d : Opening → Bool) → f id ≡ Some set → Sets id None f g → Puts (opening_of set.opened id) false c d → Exact c f → Exact d g
-exact_out id set f g c d kept out put exact = exact_by id None f g c d out
-    (λ m. at_own_id set.opened id false c d put m ∙ ap (λ (b : Bool). cond (set.opened == m) false b) (exact (opening_of m id) ∙ ap (is_opened_at m) kept) ∙ cond_same (set.opened == m))
-    (at_others set.opened id false c d put) exact
-
--- a set is put in with its opening, where there was none
-pub exact_in : (id : ℕ) (set : ChunkSet) (f g : ℕ → Option ChunkSet) (c d : Opening → Bool) → f id ≡ None → Sets id (Some set) f g → Puts (opening_of set.opened id) true c d → Exact c f → Exact d g
-exact_in id set f g c d none put_set put exact = exact_by id (Some set) f g c d put_set
-    (λ m. at_own_id set.opened id true c d put m ∙ ap (λ (b : Bool). cond (set.opened == m) true b) (exact (opening_of m id) ∙ ap (is_opened_at m) none) ∙ cond_itself (set.opened == m))
-    (at_others set.opened id true c d put) exact
-
 -- an opening is put in and taken out again
-pub exact_back : (id moment : ℕ) (f : ℕ → Option ChunkSet) (c d e : Opening → Bool) → f id ≡ None → Puts (opening_of moment id) true c d → Puts (opening_of moment id) false d e → Exact c f → Exact e f
+exact_back : (id moment : ℕ) (f : ℕ → Option ChunkSet) (c d e : Opening → Bool) → f id ≡ None → Puts (opening_of moment id) true c d → Puts (opening_of moment id) false d e → Exact c f → Exact e f
 exact_back id moment f c d e none put out exact = exact_by id None f f c e
     (λ q. ⊎_elim (λ is. subst (λ (q : ℕ). f q ≡ cond (eq_by_cmp nat_cmp id q) None (f q)) is (elim (eq_by_cmp nat_cmp id id) as (λ b. f id ≡ cond b None (f id)) [ true ↦ none | false ↦ refl ]))
         (λ ne. sym (ap (λ (b : Bool). cond b None (f q)) (is_eq_nat id q ∙ other_nat id q ne))) (cases_eq id q))
@@ -118,37 +106,17 @@ exact_back id moment f c d e none put out exact = exact_by id None f f c e
         ∙ cond_same (moment == m))
     (λ o ne. at_others moment id false d e out o ne ∙ at_others moment id true c d put o ne) exact
 
-swapped : (n o m : ℕ) → (o == n) ≡ false → cond (o == m) false (cond (n == m) true (o == m)) ≡ (n == m)
-swapped n o m apart = grind (arith, nat_tests, apart)
-
--- a set takes the place of one of its id, which was opened at another moment
-pub exact_instead : (id : ℕ) (old set : ChunkSet) (f g : ℕ → Option ChunkSet) (c d e : Opening → Bool) → f id ≡ Some old → is_opened_at set.opened (f id) ≡ false → Sets id (Some set) f g
-    → Puts (opening_of set.opened id) true c d → Puts (opening_of old.opened id) false d e → Exact c f → Exact e g
-exact_instead id old set f g c d e kept apart put_set put out exact = exact_by id (Some set) f g c e put_set
-    (λ m. at_own_id old.opened id false d e out m
-        ∙ ap (λ (b : Bool). cond (old.opened == m) false b) (at_own_id set.opened id true c d put m ∙ ap (λ (b : Bool). cond (set.opened == m) true b) (exact (opening_of m id) ∙ ap (is_opened_at m) kept))
-        ∙ swapped set.opened old.opened m (sym (ap (is_opened_at set.opened) kept) ∙ apart))
-    (λ o ne. at_others old.opened id false d e out o ne ∙ at_others set.opened id true c d put o ne) exact
-
 -- a chunk joins a set
-pub exact_part : (id number : ℕ) (part : List ℕ) (set : ChunkSet) (f g : ℕ → Option ChunkSet) (c : Opening → Bool) → f id ≡ Some set → Sets id (Some (with_part set number part)) f g → Exact c f → Exact c g
+exact_part : (id number : ℕ) (part : List ℕ) (set : ChunkSet) (f g : ℕ → Option ChunkSet) (c : Opening → Bool) → f id ≡ Some set → Sets id (Some (with_part set number part)) f g → Exact c f → Exact c g
 exact_part id number part set f g c kept put exact = exact_by id (Some (with_part set number part)) f g c c put
     (λ m. exact (opening_of m id) ∙ ap (is_opened_at m) kept) (λ o ne. refl) exact
 
 -- ---- the oldest
-any_needs_one : (test : Opening → Bool) (os : List Opening) → list_any test os ≡ true → 0 < length os
-any_needs_one test [] e = absurd (subst T (sym e) tt)
-any_needs_one test (o ∷ os) e = omega arith
-
 then_le : (a b : ℕ) (p : Ordering) → is_gt (ordering_then (nat_cmp a b) p) ≡ false → a ≤ b
 then_le a b p h = grind (arith, nat_tests, h)
 
 pub opened_le : (a b : Opening) → is_gt (opening_cmp a b) ≡ false → a.opened ≤ b.opened
 opened_le a b h = then_le a.opened b.opened (nat_cmp a.id b.id) h
-
--- where one is kept, there is an oldest
-pub none_is_kept : (openings : sorted.BTreeSet Opening) (o : Opening) → (0 < length openings.keys → ⊥) → sorted.contains opening_cmp openings o ≡ true → ⊥
-none_is_kept openings o empty e = empty (any_needs_one (is_at (opening_cmp o)) openings.keys e)
 
 -- the opening of a set that is kept
 pub has_opening : (openings : sorted.BTreeSet Opening) (sets : tree.BTreeMap ℕ ChunkSet) (id : ℕ) (set : ChunkSet) → IsIndexed openings sets → tree.get nat_cmp sets id ≡ Some set → sorted.contains opening_cmp openings (opening_of set.opened id) ≡ true
@@ -159,7 +127,7 @@ found_at : (moment : ℕ) (o : Option ChunkSet) → is_opened_at moment o ≡ tr
 found_at moment None e = absurd (subst T (sym e) tt)
 found_at moment (Some set) e = let is : set.opened ≡ moment = grind (arith, nat_tests, e) in (set, refl, is)
 
-pub of_opening : (openings : sorted.BTreeSet Opening) (sets : tree.BTreeMap ℕ ChunkSet) (o : Opening) → IsIndexed openings sets → sorted.contains opening_cmp openings o ≡ true
+of_opening : (openings : sorted.BTreeSet Opening) (sets : tree.BTreeMap ℕ ChunkSet) (o : Opening) → IsIndexed openings sets → sorted.contains opening_cmp openings o ≡ true
     → (set : ChunkSet) × (tree.get nat_cmp sets o.id ≡ Some set) × (set.opened ≡ o.opened)
 of_opening openings sets o indexed has = found_at o.opened (tree.get nat_cmp sets o.id) (sym (indexed.exact o) ∙ has)
 
@@ -175,21 +143,10 @@ none_stale now openings sets o indexed least live stale =
     absurd (subst T (sym live ∙ past) tt)
 
 -- where the oldest isn't live, its set isn't
-pub oldest_stale : (now : ℕ) (openings : sorted.BTreeSet Opening) (sets : tree.BTreeMap ℕ ChunkSet) (o : Opening) → IsIndexed openings sets → sorted.contains opening_cmp openings o ≡ true → nat_le now (o.opened + 5000) ≡ false → HasStale now sets
+oldest_stale : (now : ℕ) (openings : sorted.BTreeSet Opening) (sets : tree.BTreeMap ℕ ChunkSet) (o : Opening) → IsIndexed openings sets → sorted.contains opening_cmp openings o ≡ true → nat_le now (o.opened + 5000) ≡ false → HasStale now sets
 oldest_stale now openings sets o indexed has past =
     let found = of_opening openings sets o indexed has in
     record { id = o.id; set = found.0; kept = found.1; past = ap (λ (n : ℕ). nat_le now (n + 5000)) found.2 ∙ past }
-
-past_none : (m : ℕ) (o : Option ChunkSet) (set : ChunkSet) → o ≡ Some set → nat_le m (set.opened + 5000) ≡ false → while_live opened m o ≡ None
-past_none m o set e past = ap (while_live opened m) e ∙ ap (λ (b : Bool). cond b (Some set) None) past
-
--- a set that isn't live tells nothing
-pub tells_without : (now id : ℕ) (f g : ℕ → Option ChunkSet) (set : ChunkSet) → f id ≡ Some set → nat_le now (set.opened + 5000) ≡ false → Sets id None f g → Tells opened now g f
-tells_without now id f g set kept past out = λ m q le. ⊎_elim
-    (λ e. subst (λ (p : ℕ). while_live opened m (g p) ≡ while_live opened m (f p)) e
-        (ap (while_live opened m) (set_here id None f g out) ∙ sym (past_none m (f id) set kept (later_past now m set.opened set.opened le (omega arith) past))))
-    (λ ne. ap (while_live opened m) (set_there id None f g out q ne))
-    (cases_eq id q)
 
 -- ---- how many are live
 few_pass_where : (p : ChunkSet → Bool) (test : ℕ → Bool) (es : List (ℕ × ChunkSet)) (set : ChunkSet) → lookup test es ≡ Some set → p set ≡ false → length (filter p (values_of es)) < length es
@@ -210,7 +167,7 @@ if_some : {X : Type 0} (P : X → Type 0) (o : Option X) → ((x : X) → o ≡ 
 if_some P None h = tt
 if_some P (Some x) h = h x refl
 
-pub full_by_oldest : (now : ℕ) (openings : sorted.BTreeSet Opening) (sets : tree.BTreeMap ℕ ChunkSet) (o : Opening) (all : finite.FinMap nat_cmp ChunkSet) → tree.IsOrdered nat_cmp sets → IsIndexed openings sets
+full_by_oldest : (now : ℕ) (openings : sorted.BTreeSet Opening) (sets : tree.BTreeMap ℕ ChunkSet) (o : Opening) (all : finite.FinMap nat_cmp ChunkSet) → tree.IsOrdered nat_cmp sets → IsIndexed openings sets
     → ((q : Opening) → sorted.contains opening_cmp openings q ≡ true → o.opened ≤ q.opened) → nat_le now (o.opened + 5000) ≡ true → 1024 ≤ length sets.entries → Tells opened now (tree.get nat_cmp sets) (finite.get all)
     → true ≡ nat_le 1024 (finite.len (live_sets now all))
 full_by_oldest now openings sets o all ordered indexed least live many tells =
@@ -227,20 +184,13 @@ full_by_oldest now openings sets o all ordered indexed least live many tells =
     let enough : 1024 ≤ finite.len (live_sets now all) = omega (arith, is, all_pass, as_many, many) in
     grind (arith, nat_tests, enough)
 
-pub room_by_stale : (now : ℕ) (sets : tree.BTreeMap ℕ ChunkSet) (all : finite.FinMap nat_cmp ChunkSet) → tree.IsOrdered nat_cmp sets → length sets.entries ≤ 1024 → HasStale now sets → Tells opened now (tree.get nat_cmp sets) (finite.get all)
+room_by_stale : (now : ℕ) (sets : tree.BTreeMap ℕ ChunkSet) (all : finite.FinMap nat_cmp ChunkSet) → tree.IsOrdered nat_cmp sets → length sets.entries ≤ 1024 → HasStale now sets → Tells opened now (tree.get nat_cmp sets) (finite.get all)
     → false ≡ nat_le 1024 (finite.len (live_sets now all))
 room_by_stale now sets all ordered few stale tells =
     let fewer = few_pass_where (λ (set : ChunkSet). nat_le now (set.opened + 5000)) (is_at (nat_cmp stale.id)) sets.entries stale.set stale.kept stale.past in
     let is = live_len_is now sets all ordered tells in
     let below : finite.len (live_sets now all) < 1024 = omega (arith, is, fewer, few) in
     grind (arith, nat_tests, below)
-
--- ---- a set is opened
--- a set that isn't live is still kept, beside one of another id
-pub stale_beside : (now id : ℕ) (set : ChunkSet) (f g : tree.BTreeMap ℕ ChunkSet) → Sets id (Some set) (tree.get nat_cmp f) (tree.get nat_cmp g) → tree.get nat_cmp f id ≡ None → HasStale now f → HasStale now g
-stale_beside now id set f g put none stale =
-    let other : id ≡ stale.id → ⊥ = λ e. absurd (subst T (ap is_some (sym stale.kept ∙ sym (ap (tree.get nat_cmp f) e) ∙ none)) tt) in
-    record { id = stale.id; set = stale.set; kept = set_there id (Some set) (tree.get nat_cmp f) (tree.get nat_cmp g) put stale.id other ∙ stale.kept; past = stale.past }
 
 -- ---- each change
 pub indexed_part : (id number : ℕ) (part : List ℕ) (openings : sorted.BTreeSet Opening) (a b : tree.BTreeMap ℕ ChunkSet) → ((set : ChunkSet) → tree.get nat_cmp a id ≡ Some set → Sets id (Some (with_part set number part)) (tree.get nat_cmp a) (tree.get nat_cmp b))

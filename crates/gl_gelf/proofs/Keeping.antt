@@ -19,10 +19,6 @@ use Rattle.gl_gelf.specs.declared.chunks.Chunked.TheVariants as answers
 use Rattle.gl_gelf.specs.Chunks.{begins_as_chunk, beside, while_live, opened, at_itself, Standing, live_set, has_ended, live_sets, opened_set, with_part, refusal, refusal_by, with_set, with_end, joined, unless, chunk_head, chunk_turn, chunk_answer, at_moment, turn, turn_by, standing_behind, standing_of, Tells, Keeps}
 
 -- ---- what is live
-live_twice : {X : Type 0} (since : X → ℕ) (now m : ℕ) (o : Option X) → now ≤ m → while_live since m (while_live since now o) ≡ while_live since m o
-live_twice since now m None le = refl
-live_twice since now m (Some x) le = grind (arith, nat_tests)
-
 pub live_some : {X : Type 0} (since : X → ℕ) (now : ℕ) (o : Option X) (x : X) → while_live since now o ≡ Some x → o ≡ Some x
 live_some since now None x h = h
 live_some {X} since now (Some y) x h = elim (nat_le now (since y + 5000)) as (λ b. ◌≡◌ {A = Option X} (cond b (Some y) None) (Some x) → Some y ≡ Some x) [
@@ -47,9 +43,6 @@ pub tells_put : {X : Type 0} (since : X → ℕ) (now id : ℕ) (w : Option X) (
 tells_put {X} since now id w f g f' g' f_is g_is t = λ m q le.
     ap (while_live since m) (f_is q ∙ ap (λ b. cond b w (f q)) ((eq_by_cmp_equiv nat_cmp_total).symm id q))
     ∙ same_branch since m (eq_by_cmp nat_cmp q id) w (f q) (g q) (t m q le) ∙ ap (while_live since m) (sym (g_is q))
-
-pub tells_less : {X : Type 0} (since : X → ℕ) (now : ℕ) (f g f' : ℕ → Option X) → ((q : ℕ) → f' q ≡ while_live since now (f q)) → Tells since now f g → Tells since now f' g
-tells_less since now f g f' is t = λ m q le. ap (while_live since m) (is q) ∙ live_twice since now m (f q) le ∙ t m q le
 
 pub tells_same : {X : Type 0} (since : X → ℕ) (now : ℕ) (old new : tree.BTreeMap ℕ X) (g : ℕ → Option X) → tree.IsUnchanged old new → Tells since now (tree.get nat_cmp old) g → Tells since now (tree.get nat_cmp new) g
 tells_same {X} since now old new g e t = λ m q le. ap (λ (es : List (ℕ × X)). while_live since m (lookup (is_at (nat_cmp q)) es)) e ∙ t m q le
@@ -95,12 +88,6 @@ keeps_end now id a b x y s gone put k = record {
   of_ended = tells_put at_itself now id (Some now) (tree.get nat_cmp x) (finite.get s.ended) (tree.get nat_cmp y) (finite.get (finite.insert s.ended id s.now)) put
       (λ q. finite.get-insert nat_cmp_total s.ended id s.now q ∙ ap (λ (n : ℕ). cond (eq_by_cmp nat_cmp q id) (Some n) (finite.get s.ended q)) k.now_is) k.of_ended;
 }
-
-pub keeps_less_sets : (now : ℕ) (a b : tree.BTreeMap ℕ ChunkSet) (x : tree.BTreeMap ℕ ℕ) (s : Standing) → Tells opened now (tree.get nat_cmp b) (tree.get nat_cmp a) → Keeps now a x s → Keeps now b x s
-keeps_less_sets now a b x s told k = record { now_is = k.now_is; of_sets = λ m q le. told m q le ∙ k.of_sets m q le; of_ended = k.of_ended }
-
-pub keeps_less_ended : (now : ℕ) (a : tree.BTreeMap ℕ ChunkSet) (x y : tree.BTreeMap ℕ ℕ) (s : Standing) → ((q : ℕ) → tree.get nat_cmp y q ≡ while_live at_itself now (tree.get nat_cmp x q)) → Keeps now a x s → Keeps now a y s
-keeps_less_ended now a x y s is k = record { now_is = k.now_is; of_sets = k.of_sets; of_ended = tells_less at_itself now (tree.get nat_cmp x) (finite.get s.ended) (tree.get nat_cmp y) is k.of_ended }
 
 -- ---- how many sets are live
 find_is : {X : Type 0} (es : List (ℕ × X)) (q : ℕ) → finite.find nat_cmp q es ≡ lookup (is_at (nat_cmp q)) es
@@ -166,10 +153,6 @@ live_len_is now a all ordered tells =
     ∙ sym (lookup-filter-values (eq_by_cmp_equiv nat_cmp_total) (λ (set : ChunkSet). nat_le now (set.opened + 5000)) q a.entries distinct)
     ∙ sym (find_is some q) ∙ sym (finite.get-from_entries nat_cmp_total some q)) in
     ap finite.len same ∙ len_is some (distinct_filter (λ e. nat_le now (e.1.opened + 5000)) a.entries distinct) ∙ values_filter (λ (set : ChunkSet). nat_le now (set.opened + 5000)) a.entries
-
-pub full_is : (now : ℕ) (a : tree.BTreeMap ℕ ChunkSet) (all : finite.FinMap nat_cmp ChunkSet) (n : ℕ) → tree.IsOrdered nat_cmp a → Tells opened now (tree.get nat_cmp a) (finite.get all)
-    → n ≡ length (filter (λ set. nat_le now (set.opened + 5000)) (tree.values a)) → nat_le 1024 n ≡ nat_le 1024 (finite.len (live_sets now all))
-full_is now a all n ordered tells n_is = ap (nat_le 1024) (n_is ∙ sym (live_len_is now a all ordered tells))
 
 pub not_full : (now : ℕ) (a : tree.BTreeMap ℕ ChunkSet) (all : finite.FinMap nat_cmp ChunkSet) → tree.IsOrdered nat_cmp a → Tells opened now (tree.get nat_cmp a) (finite.get all)
     → length a.entries < 1024 → false ≡ nat_le 1024 (finite.len (live_sets now all))

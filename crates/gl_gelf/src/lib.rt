@@ -6,8 +6,8 @@
 //!
 //! `chunk_head` tells the lawful chunks. `Chunks` puts them together: its answer to a datagram is the
 //! one that all datagrams so far give (`chunk_answer`, `specs/Chunks`), whatever it has discarded, and
-//! for want of memory nothing changes. A chunk costs a search among 1,024 sets at most; where it would
-//! open one more while so many are kept, those that are live are counted.
+//! for want of memory nothing changes. A chunk costs a few searches among 1,024 sets at most: whether so
+//! many are live, and which one makes room, is told by the oldest (`Sets`, `specs/Openings`).
 //!
 //! `decode_gelf` gives exactly the fields that `specs/Decoding` defines of a payload, or the cause that
 //! it has none: timestamps are exact decimals (`specs/Decimals`), and of equal names the last counts

@@ -115,7 +115,8 @@ impl Sets {
 
     /// Discards the oldest set, where it isn't live.
     pub fn discard(&mut self, now: u64)
-        ensures { Tells opened now (get nat_cmp self.new) (get nat_cmp self.old) }
+        ensures tells { Tells opened now (get nat_cmp self.new) (get nat_cmp self.old) }
+        ensures fewer { HasStale now self.old → length self.new.entries < length self.old.entries }
     {
         discard_oldest(&mut self.by_id, &mut self.openings, now);
     }
