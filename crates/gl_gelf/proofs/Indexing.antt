@@ -100,10 +100,10 @@ cond_itself false = refl
 exact_back : (id moment : ℕ) (f : ℕ → Option ChunkSet) (c d e : Opening → Bool) → f id ≡ None → Puts (opening_of moment id) true c d → Puts (opening_of moment id) false d e → Exact c f → Exact e f
 exact_back id moment f c d e none put out exact = exact_by id None f f c e
     (λ q. ⊎_elim (λ is. subst (λ (q : ℕ). f q ≡ cond (eq_by_cmp nat_cmp id q) None (f q)) is (elim (eq_by_cmp nat_cmp id id) as (λ b. f id ≡ cond b None (f id)) [ true ↦ none | false ↦ refl ]))
-        (λ ne. sym (ap (λ (b : Bool). cond b None (f q)) (is_eq_nat id q ∙ other_nat id q ne))) (cases_eq id q))
+    (λ ne. sym (ap (λ (b : Bool). cond b None (f q)) (is_eq_nat id q ∙ other_nat id q ne))) (cases_eq id q))
     (λ m. at_own_id moment id false d e out m
-        ∙ ap (λ (b : Bool). cond (moment == m) false b) (at_own_id moment id true c d put m ∙ ap (λ (b : Bool). cond (moment == m) true b) (exact (opening_of m id) ∙ ap (is_opened_at m) none) ∙ cond_itself (moment == m))
-        ∙ cond_same (moment == m))
+    ∙ ap (λ (b : Bool). cond (moment == m) false b) (at_own_id moment id true c d put m ∙ ap (λ (b : Bool). cond (moment == m) true b) (exact (opening_of m id) ∙ ap (is_opened_at m) none) ∙ cond_itself (moment == m))
+    ∙ cond_same (moment == m))
     (λ o ne. at_others moment id false d e out o ne ∙ at_others moment id true c d put o ne) exact
 
 -- a chunk joins a set

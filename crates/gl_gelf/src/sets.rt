@@ -201,11 +201,7 @@ fn take_out(sets: &mut BTreeMap<u64, ChunkSet>, openings: &mut BTreeSet<Opening>
     }
 }
 
-fn discard_oldest(
-    sets: &mut BTreeMap<u64, ChunkSet>,
-    openings: &mut BTreeSet<Opening>,
-    now: u64,
-)
+fn discard_oldest(sets: &mut BTreeMap<u64, ChunkSet>, openings: &mut BTreeSet<Opening>, now: u64)
     requires { IsIndexed openings.old sets.old }
     ensures indexed { IsIndexed openings.new sets.new }
     ensures tells { Tells opened now (get nat_cmp sets.new) (get nat_cmp sets.old) }
