@@ -1,6 +1,9 @@
 // Rows, and the rules of index sets.
+ghost use Rattle.std.specs.Prelude.{◌≡◌, ◌↔◌, IfOk, IsTrue};
+
 use gl_base::{Items, Text};
 use gl_fields::FieldMap;
+use std::alloc::AllocError;
 
 /// When an index set begins a new index, and how many it keeps.
 #[derive(Debug, Drop)]
@@ -26,4 +29,28 @@ pub struct Row {
     /// The names of its index sets.
     pub sets: Items<Text>,
     pub fields: FieldMap,
+}
+
+impl SetRule {
+    /// An equal rule.
+    pub fn copy(&self) -> Result<SetRule, AllocError>
+        ensures { IfOk result (λ r. r ≡ self.now) }
+    {
+        Ok(SetRule {
+            name: self.name.copy()?,
+            max_docs: self.max_docs,
+            max_ms: self.max_ms,
+            keep: self.keep,
+        })
+    }
+
+    /// Whether both are equal. It takes no memory.
+    pub fn same(&self, other: &SetRule) -> bool
+        ensures { IsTrue result ↔ (self.now ≡ other.now) }
+    {
+        self.max_docs == other.max_docs
+            && self.max_ms == other.max_ms
+            && self.keep == other.keep
+            && self.name.same(&other.name)
+    }
 }
