@@ -9,8 +9,5 @@ pub mod Faults
 pub mod ImageWords
 pub mod Links
 pub mod Listed
-pub mod Mute
-pub mod Patterns
 pub mod RecordView
-pub mod Shop
 pub mod Views

@@ -1,5 +1,5 @@
 -- What contracts see of the kinds in memory.
-use Rattle.std.specs.Prelude.{◌≡◌, ◌≢◌, ◌⊎◌, ℕ, ◌+◌, ◌<◌, ◌≤◌, List, length, sum_by}
+use Rattle.std.specs.Prelude.{◌≡◌, ◌≢◌, ◌⊎◌, ℕ, ◌+◌, ◌<◌, ◌≤◌, List, ◌∷◌, length, sum_by}
 use Rattle.std.specs.List.{AllPairs}
 use Rattle.gl_outside.specs.Events.{Event, content}
 use Rattle.gl_outside.specs.Listed.{one_more}
@@ -16,18 +16,6 @@ pub record SourceView : Type 0 where
 pub record SinkView : Type 0 where
   pub taken : List ℕ
   pub piece : ℕ
-  pub failing : List ℕ
-  pub made : ℕ
-  pub faults : ℕ
-
--- the last text that it refused, and how often it refused one
-pub record Refusals : Type 0 where
-  pub refused : List ℕ
-  pub faults : ℕ
-
--- the last text that it refused, and the same of its calls
-pub record ShopView : Type 0 where
-  pub refused : List ℕ
   pub failing : List ℕ
   pub made : ℕ
   pub faults : ℕ
@@ -55,3 +43,8 @@ pub record HasRoom (d : DiskView) : Type 0 where
 pub record CountsCall (old new : DiskView) : Type 0 where
   pub made : new.made ≡ one_more old.made
   pub failing : new.failing ≡ old.failing
+
+-- a call that failed is recorded where there is room for it, as one that may be done in part
+pub record IsTried (used_up : Type 0) (call : Event) (old new : List Event) : Type 0 where
+  pub recorded : (used_up → ⊥) → new ≡ call ∷ old
+  pub unrecorded : used_up → new ≡ old

@@ -12,7 +12,7 @@ use std::alloc::{AllocError, Global};
 /// What became of the writes and cuts that no `sync` of their area followed, in a crash.
 ///
 /// A write or cut that failed counts as one of them, since it may have been done in part.
-#[derive(Clone, Copy, Debug, PartialEq, Eq)]
+#[derive(Clone, Copy)]
 pub enum Unsynced {
     /// None was done: an area is as its last `sync` left it.
     Absent,

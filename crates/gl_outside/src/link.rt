@@ -22,9 +22,9 @@ pub enum Received {
 }
 
 /// What a link has to give.
-#[derive(Debug, Drop)]
+#[derive(Drop)]
 pub enum Delivery {
-    /// A datagram and the address that it came from.
+    /// A datagram and the address that it came from, as `IP:PORT`.
     Datagram { peer: Text, bytes: Items<u8> },
     /// A while in which none came.
     Quiet,
@@ -38,7 +38,7 @@ pub trait Link {
     /// What is left, where it tells that.
     ghost left: { Self → Option (List Delivery) };
 
-    /// The address of the last datagram; empty before the first.
+    /// The address of the last datagram, as `IP:PORT`; empty before the first.
     ghost peer: { Self → List ℕ };
 
     /// How often it has failed.
@@ -52,7 +52,7 @@ pub trait Link {
         ensures peer { KeepsPeerAfter (peer self.old) (peer self.new) result }
         ensures cause { HasCause Failed (faults self.old) (faults self.new) result };
 
-    /// The address that the last datagram came from, of 1 to 255 bytes; empty before the first.
+    /// The address that the last datagram came from, as `IP:PORT`, of 1 to 255 bytes; empty before the first.
     fn peer(&self) -> &str
         ensures { result.now ≡ peer self.now };
 

@@ -1,5 +1,5 @@
 // A disk in memory. It keeps a record of its calls, by which each image that a crash may leave can be told.
-ghost use Rattle.std.specs.Prelude.{◌≡◌, ◌↔◌, ◌⊎◌, ℕ, ◌+◌, ◌-◌, ◌^◌, ◌<◌, ◌≤◌, length, min, take, drop, IfOk, OnOk, OnErr, IsErrOf, []};
+ghost use Rattle.std.specs.Prelude.{◌≡◌, ◌↔◌, ◌⊎◌, ℕ, ◌+◌, ◌-◌, ◌^◌, ◌<◌, ◌≤◌, length, min, take, drop, IfOk, OnOk, OnErr, IsErrOf, [], ◌∷◌, true, false};
 ghost use Rattle.gl_base.specs.Counts.{HasCause};
 ghost use Rattle.gl_outside.specs.declared.fault.Outside.TheVariants.{Failed, OutOfMemory};
 ghost use Rattle.gl_outside.specs.Faults.{NeedsNoMemory};
@@ -8,9 +8,9 @@ ghost use Rattle.gl_outside.specs.AfterCrash.{first_calls, left_by, IsFilled};
 ghost use Rattle.gl_outside.specs.Areas.{bytes_in, held};
 ghost use Rattle.gl_outside.specs.Crash.{AreLawful, synced};
 ghost use Rattle.gl_outside.specs.Disk.{IsUnchanged, Elapses, Torn, CutTo, InArea, Follows, IsDurable, overwritten};
-ghost use Rattle.gl_outside.specs.Events.{content, told_by, IsImage, LeftSince};
+ghost use Rattle.gl_outside.specs.Events.{Looked, Wrote, WasCut, Synced, content, told_by, IsImage, LeftSince};
 ghost use Rattle.gl_outside.specs.Listed.{IsListed, one_more};
-ghost use Rattle.gl_outside.specs.Views.{DiskView, IsUsedUp, HasRoom, CountsCall};
+ghost use Rattle.gl_outside.specs.Views.{DiskView, IsUsedUp, HasRoom, CountsCall, IsTried};
 
 use crate::areas::{Area, bytes_of, cut_area, write_area};
 use crate::crash::Unsynced;
@@ -159,6 +159,7 @@ impl Disk for MemoryDisk {
 
     ghost faults = { λ d. d.faults };
 
+    #[tactic(auto, using(crate::proofs::Told::elapses_same, crate::proofs::Told::elapses_more))]
     fn length(&mut self, area: u32) -> Result<u64, Outside>
         ensures answer { IfOk result (λ n. n ≡ length (content self.old.events area)) }
         ensures unchanged { IsUnchanged (told_by self.old.events) (told_by self.new.events) }
@@ -168,6 +169,8 @@ impl Disk for MemoryDisk {
         ensures exact { IsErrOf result Failed ↔ IsListed self.old.failing self.old.made }
         ensures fault { IsErrOf result Failed → self.new.faults ≡ one_more self.old.faults }
         ensures call { CountsCall self.old self.new }
+        ensures recorded { OnOk result (self.new.events ≡ Looked ∷ self.old.events) }
+        ensures unrecorded { OnErr result (self.new.events ≡ self.old.events) }
         ensures room { OnOk result (HasRoom self.new) }
         ensures same_room { OnErr result ((self.new.calls_left ≡ self.old.calls_left) × (self.new.bytes_left ≡ self.old.bytes_left)) }
     {
@@ -181,6 +184,7 @@ impl Disk for MemoryDisk {
         Ok(bytes_of(&self.areas, area).len() as u64)
     }
 
+    #[tactic(auto, using(crate::proofs::Told::elapses_same, crate::proofs::Told::elapses_more))]
     fn read(&mut self, area: u32, at: u64, into: &mut [u8]) -> Result<(), Outside>
         requires { at + length into.old ≤ length (content self.old.events area) }
         ensures bytes { OnOk result (into.new ≡ take (length into.old) (drop at (content self.old.events area))) }
@@ -191,6 +195,8 @@ impl Disk for MemoryDisk {
         ensures exact { IsErrOf result Failed ↔ IsListed self.old.failing self.old.made }
         ensures fault { IsErrOf result Failed → self.new.faults ≡ one_more self.old.faults }
         ensures call { CountsCall self.old self.new }
+        ensures recorded { OnOk result (self.new.events ≡ Looked ∷ self.old.events) }
+        ensures unrecorded { OnErr result (self.new.events ≡ self.old.events) }
         ensures room { OnOk result (HasRoom self.new) }
         ensures same_room { OnErr result ((self.new.calls_left ≡ self.old.calls_left) × (self.new.bytes_left ≡ self.old.bytes_left)) }
     {
@@ -207,6 +213,7 @@ impl Disk for MemoryDisk {
         Ok(())
     }
 
+    #[tactic(auto, using(crate::proofs::Told::elapses_same, crate::proofs::Told::elapses_more, crate::proofs::Told::follows_write, crate::proofs::Told::follows_same_write))]
     fn write_at(&mut self, area: u32, at: u64, bytes: &[u8]) -> Result<(), Outside>
         requires { at ≤ length (content self.old.events area) }
         ensures written { OnOk result (content self.new.events area ≡ overwritten at bytes.now (content self.old.events area)) }
@@ -220,6 +227,10 @@ impl Disk for MemoryDisk {
         ensures exact { IsErrOf result Failed ↔ (IsListed self.old.failing self.old.made ⊎ (at + length bytes.now ≤ length (content self.old.events area)) × IsUsedUp self.old (length bytes.now)) }
         ensures fault { IsErrOf result Failed → self.new.faults ≡ one_more self.old.faults }
         ensures call { CountsCall self.old self.new }
+        ensures recorded { OnOk result (self.new.events ≡ Wrote area at bytes.now true ∷ self.old.events) }
+        // A write that failed may be done in part.
+        ensures tried { IsErrOf result Failed → IsTried (IsUsedUp self.old (length bytes.now)) (Wrote area at bytes.now false) self.old.events self.new.events }
+        ensures unrecorded { IsErrOf result OutOfMemory → self.new.events ≡ self.old.events }
         ensures room { OnOk result (length (content self.old.events area) < at + length bytes.now → HasRoom self.new) }
         ensures left { OnOk result (at + length bytes.now ≤ length (content self.old.events area) → (self.new.calls_left + 1 ≡ self.old.calls_left) × (self.new.bytes_left + length bytes.now ≡ self.old.bytes_left)) }
         ensures spent { at + length bytes.now ≤ length (content self.old.events area) → (self.old.calls_left ≤ self.new.calls_left + 1) × (self.old.bytes_left ≤ self.new.bytes_left + length bytes.now) }
@@ -227,11 +238,12 @@ impl Disk for MemoryDisk {
         let len = bytes_of(&self.areas, area).len();
         let start = at as usize;
         if is_listed(&self.failing, &mut self.made) {
-            // It may be done in part.
-            if self.calls.calls_left() > 0 && bytes.len() <= self.calls.bytes_left() {
-                self.calls.write(area, at, bytes, false);
-            }
             count_one(&mut self.faults);
+            if self.calls.calls_left() == 0 || bytes.len() > self.calls.bytes_left() {
+                return Err(Outside::Failed);
+            }
+            // It may be done in part.
+            self.calls.write(area, at, bytes, false);
             return Err(Outside::Failed);
         }
         if bytes.len() > len - start {
@@ -253,6 +265,7 @@ impl Disk for MemoryDisk {
         Ok(())
     }
 
+    #[tactic(auto, using(crate::proofs::Told::elapses_same, crate::proofs::Told::elapses_more, crate::proofs::Told::follows_cut))]
     fn cut(&mut self, area: u32, length: u64) -> Result<(), Outside>
         ensures done { OnOk result (content self.new.events area ≡ take length (content self.old.events area)) }
         ensures in_part { InArea area (CutTo length) (content self.old.events) (content self.new.events) }
@@ -264,6 +277,9 @@ impl Disk for MemoryDisk {
         ensures exact { IsErrOf result Failed ↔ (IsListed self.old.failing self.old.made ⊎ (self.old.calls_left ≡ 0)) }
         ensures fault { IsErrOf result Failed → self.new.faults ≡ one_more self.old.faults }
         ensures call { CountsCall self.old self.new }
+        ensures recorded { OnOk result (self.new.events ≡ WasCut area length true ∷ self.old.events) }
+        // A cut that failed may be done in part.
+        ensures tried { OnErr result (IsTried (self.old.calls_left ≡ 0) (WasCut area length false) self.old.events self.new.events) }
         ensures left { OnOk result (self.new.calls_left + 1 ≡ self.old.calls_left) }
         ensures spent { (self.old.calls_left ≤ self.new.calls_left + 1) × (self.new.bytes_left ≡ self.old.bytes_left) }
     {
@@ -283,6 +299,7 @@ impl Disk for MemoryDisk {
         Ok(())
     }
 
+    #[tactic(auto, using(crate::proofs::Told::elapses_same, crate::proofs::Told::elapses_more))]
     fn sync(&mut self, area: u32) -> Result<(), Outside>
         ensures durable { OnOk result (IsDurable area (content self.old.events area) (told_by self.new.events)) }
         ensures unchanged { IsUnchanged (told_by self.old.events) (told_by self.new.events) }
@@ -293,6 +310,8 @@ impl Disk for MemoryDisk {
         ensures exact { IsErrOf result Failed ↔ (IsListed self.old.failing self.old.made ⊎ (self.old.calls_left ≡ 0)) }
         ensures fault { IsErrOf result Failed → self.new.faults ≡ one_more self.old.faults }
         ensures call { CountsCall self.old self.new }
+        ensures recorded { OnOk result (self.new.events ≡ Synced area ∷ self.old.events) }
+        ensures unrecorded { OnErr result (self.new.events ≡ self.old.events) }
         ensures left { OnOk result (self.new.calls_left + 1 ≡ self.old.calls_left) }
         ensures spent { (self.old.calls_left ≤ self.new.calls_left + 1) × (self.new.bytes_left ≡ self.old.bytes_left) }
     {

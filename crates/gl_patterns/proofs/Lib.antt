@@ -1,0 +1,6 @@
+pub mod Keeping
+pub mod Parts
+pub mod Searches
+pub mod Writing
+pub mod Groups
+pub mod Patterns

@@ -1,0 +1,4 @@
+pub mod Built
+pub mod Cells
+pub mod Patterns
+pub mod Shop
