@@ -10,8 +10,8 @@ use Rattle.std.proofs.lemmas.Str.{IsUtf8-from_is_utf8, is_utf8-from_IsUtf8, IsUt
 use Rattle.std.proofs.lemmas.List.Elements.{All-cons, All-nil, All-push, All-head, All-tail}
 use Rattle.std.proofs.lemmas.List.Sums.{AllPass-from_list_all, list_all-from_AllPass, sum_by-cons, sum_by-append, sum_by_push}
 use Rattle.gl_fields.specs.declared.field.Field.{Field}
-use Rattle.gl_fields.specs.declared.field.Value.{Value}
-use Rattle.gl_fields.specs.declared.field.Value.TheVariants.{Text, Whole}
+use Rattle.gl_fields.specs.declared.value.Value.{Value}
+use Rattle.gl_fields.specs.declared.value.Value.TheVariants.{Text, Whole}
 use Rattle.gl_fields.specs.Entries.{short_text, long_text}
 use Rattle.gl_fields.specs.Outcomes.{value_bytes, field_bytes}
 use Rattle.gl_fields.specs.Fields.{comes_before, is_name_byte, is_field_name, is_text, value_text, field_size, counted_size, IsValue, IsField, Rises}
@@ -20,7 +20,10 @@ use Rattle.gl_fields.specs.Reading.{text_value_at, whole_value_at, value_at, nam
 use Rattle.gl_fields.proofs.Taking.{bind_ok, guard_ok, ok_is, IsBytes, Takes, Takes-then, IsWithin, wide64, byte_takes, byte_again, number_takes, number_again, text_takes, text_again, long_takes, long_again}
 use Rattle.gl_fields.proofs.Growing.{Rises-push, Rises-before}
 use Rattle.gl_fields.proofs.Setting.{Fine, fine, none-from, Before}
-use Rattle.gl_fields.proofs.Peel.{fits}
+
+-- a number of 64 bits with its sign
+fits : (z : ℤ) → (negsuc 9223372036854775807 ≤ℤ z) → (z ≤ℤ pos 9223372036854775807) → FitsSigned w64 z
+fits z low high = omega (arith, ints)
 
 -- names
 

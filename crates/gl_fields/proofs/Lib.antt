@@ -4,7 +4,6 @@ pub mod Placing
 pub mod Setting
 pub mod Moving
 pub mod OutcomeRead
-pub mod Peel
 pub mod ReadBack
 pub mod EntryRead
 pub mod FieldRead

@@ -6,8 +6,8 @@ use Rattle.std.specs.Str.{bytes_eq}
 use Rattle.std.proofs.lemmas.List.Elements.{All-weaker, All-nil, All-filter}
 use Rattle.std.proofs.lemmas.List.Sums.{sum_by-cons}
 use Rattle.gl_fields.specs.declared.field.Field.{Field}
-use Rattle.gl_fields.specs.declared.field.Value.{Value}
-use Rattle.gl_fields.specs.declared.field.Value.TheVariants.{Whole}
+use Rattle.gl_fields.specs.declared.value.Value.{Value}
+use Rattle.gl_fields.specs.declared.value.Value.TheVariants.{Whole}
 use Rattle.gl_fields.specs.declared.field.FieldRefusal.{FieldRefusal}
 use Rattle.gl_fields.specs.declared.field.FieldRefusal.TheVariants.{Reserved, OutOfMemory}
 use Rattle.gl_fields.specs.Fields.{comes_before, with_field, without, stays, removal, moved, renamed, refused, settled_by, settled, refusal_of, field_size, counted_size, value_of, IsField, IsFieldMap}

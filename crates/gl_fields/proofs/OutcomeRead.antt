@@ -259,7 +259,7 @@ outcome_found bytes outcome all e =
     let read = outcome_takes bytes (outcome, []) all (whole_is bytes (outcome_at bytes) outcome e) in
     (read.1, read.0.parts ∙ append-nil (outcome_bytes outcome))
 
-outcome_only : (bytes : List ℕ) (outcome : Outcome) → IsOutcome outcome → bytes ≡ outcome_bytes outcome → outcome_of bytes ≡ Ok outcome
+pub outcome_only : (bytes : List ℕ) (outcome : Outcome) → IsOutcome outcome → bytes ≡ outcome_bytes outcome → outcome_of bytes ≡ Ok outcome
 unfolding outcome_of
 outcome_only bytes outcome is e =
     let read : outcome_at bytes ≡ Ok (outcome, []) = ap outcome_at (e ∙ sym (append-nil (outcome_bytes outcome))) ∙ outcome_again outcome [] is in

@@ -1,5 +1,5 @@
 -- The bounds of entries and outcomes: those under which their bytes read back to them.
-use Rattle.std.specs.Prelude.{ℕ, ◌^◌, ◌<◌, ◌≤◌, List, length, ⊤}
+use Rattle.std.specs.Prelude.{ℕ, ◌^◌, ◌<◌, ◌≤◌, List, length, ⊤, IfSome}
 use Rattle.std.specs.List.{All}
 use Rattle.std.specs.Str.{IsUtf8}
 use Rattle.gl_fields.specs.declared.entry.Entry.{Entry}
@@ -21,6 +21,7 @@ pub record IsText (most : ℕ) (text : List ℕ) : Type 0 where
 pub record IsPayload (m : Payload) : Type 0 where
   pub input : IsText 64 m.input
   pub peer : IsText 255 m.peer
+  pub origin : IfSome m.origin (λ origin. origin.port < 2 ^ 16)
   pub moment : m.moment ≤ 253402300799999
   pub version : m.version < 2 ^ 64
   pub some : 0 < length m.bytes

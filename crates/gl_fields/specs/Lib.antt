@@ -2,6 +2,7 @@ pub mod Bounds
 pub mod Entries
 pub mod Fields
 pub mod Outcomes
+pub mod Peers
 pub mod Places
 pub mod Putting
 pub mod Reading

@@ -1,10 +1,13 @@
 -- What bytes say as an entry, or as an outcome, and else the place at which they stop to: that of the first unit
--- that isn't taken behind the units before it. Units are the sign of a kind, each count, length, moment, version,
--- id and number, and the bytes of each text.
-use Rattle.std.specs.Prelude.{ℕ, ◌+◌, ◌-◌, ◌^◌, ◌&&◌, not, Bool, List, [], length, Result, Ok, Err, nat_lt, nat_le, ◌==◌, if◌then◌else◌, codes}
+-- that isn't taken behind the units before it. Units are the sign of a kind, each count, length, port, moment,
+-- version, id and number, and the bytes of each text.
+use Rattle.std.specs.Prelude.{ℕ, ◌+◌, ◌-◌, ◌^◌, ◌&&◌, not, Bool, List, [], length, Option, Some, None, Result, Ok, Err, nat_lt, nat_le, ◌==◌, if◌then◌else◌, codes}
 use Rattle.std.specs.List.{list_all}
 use Rattle.std.specs.Int.{w16, w32, w64, cast_signed}
 use Rattle.std.specs.Str.{bytes_eq, is_utf8}
+use Rattle.gl_fields.specs.declared.input_kind.InputKind.{InputKind}
+use Rattle.gl_fields.specs.declared.input_kind.InputKind.TheVariants.{Raw, Gelf, Syslog}
+use Rattle.gl_fields.specs.declared.entry.Origin.{Origin}
 use Rattle.gl_fields.specs.declared.entry.Entry.{Entry}
 use Rattle.gl_fields.specs.declared.entry.Entry.TheVariants.{Admin, Message}
 use Rattle.gl_fields.specs.declared.entry.Message.{Message as Payload}
@@ -13,21 +16,44 @@ use Rattle.gl_fields.specs.declared.entry.Cause.TheVariants.{NotJson, TooDeep, C
 use Rattle.gl_fields.specs.declared.entry.Outcome.{Outcome}
 use Rattle.gl_fields.specs.declared.entry.Outcome.TheVariants.{Applied, Stored, Dropped, Undecodable}
 use Rattle.gl_fields.specs.declared.field.Field.{Field}
-use Rattle.gl_fields.specs.declared.field.Value.{Value}
-use Rattle.gl_fields.specs.declared.field.Value.TheVariants.{Text, Whole}
+use Rattle.gl_fields.specs.declared.value.Value.{Value}
+use Rattle.gl_fields.specs.declared.value.Value.TheVariants.{Text, Whole}
 use Rattle.gl_fields.specs.Fields.{comes_before, is_field_name, is_text, field_size, counted_size}
 use Rattle.gl_fields.specs.Units.{◌>>=◌, byte_at, number_at, text_at, are_any, short_text_at, long_text_at, many_at, whole}
 
 -- entries
 
+abbrev pub kind_of : ℕ → InputKind
+kind_of sign = if sign == 0 then Raw else (if sign == 1 then Gelf else Syslog)
+
+unfoldable pub kind_at : List ℕ → Result (InputKind × List ℕ) ℕ
+kind_at bytes = do
+  sign ← byte_at 0 2 bytes
+  Ok (kind_of sign.0, sign.1)
+
+-- a message of this input, peer and origin, from its moment on
+unfoldable pub received_at : List ℕ → List ℕ → Option Origin → List ℕ → Result (Payload × List ℕ) ℕ
+received_at input peer origin bytes = do
+  moment ← number_at w64 0 253402300799999 bytes
+  version ← number_at w64 0 (2 ^ 64 - 1) moment.1
+  payload ← long_text_at are_any 1 1048576 version.1
+  Ok (record { input = input; peer = peer; origin = origin; moment = moment.0; version = version.0; bytes = payload.0 }, payload.1)
+
+-- a message in the first format
 unfoldable pub message_at : List ℕ → Result (Payload × List ℕ) ℕ
 message_at bytes = do
   input ← short_text_at 64 bytes
   peer ← short_text_at 255 input.1
-  moment ← number_at w64 0 253402300799999 peer.1
-  version ← number_at w64 0 (2 ^ 64 - 1) moment.1
-  payload ← long_text_at are_any 1 1048576 version.1
-  Ok (record { input = input.0; peer = peer.0; moment = moment.0; version = version.0; bytes = payload.0 }, payload.1)
+  received_at input.0 peer.0 None peer.1
+
+-- a message in the second format
+unfoldable pub origin_message_at : List ℕ → Result (Payload × List ℕ) ℕ
+origin_message_at bytes = do
+  input ← short_text_at 64 bytes
+  kind ← kind_at input.1
+  peer ← short_text_at 255 kind.1
+  port ← number_at w16 0 65535 peer.1
+  received_at input.0 peer.0 (Some (record { kind = kind.0; port = port.0 })) port.1
 
 unfoldable pub command_at : List ℕ → Result (Entry × List ℕ) ℕ
 command_at bytes = do
@@ -39,10 +65,15 @@ payload_at bytes = do
   m ← message_at bytes
   Ok (Message m.0, m.1)
 
+unfoldable pub origin_payload_at : List ℕ → Result (Entry × List ℕ) ℕ
+origin_payload_at bytes = do
+  m ← origin_message_at bytes
+  Ok (Message m.0, m.1)
+
 unfoldable pub entry_at : List ℕ → Result (Entry × List ℕ) ℕ
 entry_at bytes = do
-  sign ← byte_at 1 2 bytes
-  if sign.0 == 1 then command_at sign.1 else payload_at sign.1
+  sign ← byte_at 1 3 bytes
+  if sign.0 == 1 then command_at sign.1 else (if sign.0 == 2 then payload_at sign.1 else origin_payload_at sign.1)
 
 unfoldable pub entry_of : List ℕ → Result Entry ℕ
 entry_of bytes = whole bytes (entry_at bytes)

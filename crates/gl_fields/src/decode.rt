@@ -4,23 +4,13 @@ ghost use Rattle.gl_fields.specs.declared.entry.Entry.{Entry};
 ghost use Rattle.gl_fields.specs.Entries.{entry_bytes};
 ghost use Rattle.gl_fields.specs.Bounds.{IsEntry};
 ghost use Rattle.gl_fields.specs.Units.{Answers, Gives};
-ghost use Rattle.gl_fields.specs.Reading.{message_at, command_at, payload_at, entry_at, entry_of};
+ghost use Rattle.gl_fields.specs.Reading.{kind_of, kind_at, received_at, message_at, origin_message_at, command_at, payload_at, origin_payload_at, entry_at, entry_of};
 
+use crate::limits::{LAST_MOMENT, MAX_COMMAND, MAX_INPUT, MAX_PAYLOAD, MAX_PEER};
 use crate::units::{self, Unread};
-use crate::{Entry, Message};
-use gl_base::Items;
+use crate::{Entry, InputKind, Message, Origin};
+use gl_base::{Items, Text};
 use std::alloc::Global;
-
-const MAX_INPUT: u8 = 64;
-
-const MAX_PEER: u8 = 255;
-
-/// The last millisecond of the year 9999.
-const MAX_MOMENT: u64 = 253_402_300_799_999;
-
-const MAX_PAYLOAD: u32 = 1_048_576;
-
-const MAX_COMMAND: u32 = 4_194_299;
 
 /// Why bytes aren't those of an entry, or of an outcome.
 #[derive(Clone, Copy, Debug, PartialEq, Eq)]
@@ -72,19 +62,21 @@ pub fn not_an_entry(bytes: &[u8], left: usize) -> EntryRefusal
 fn entry_at(alloc: Global, bytes: &[u8]) -> Result<(Entry, &[u8]), Unread>
     ensures { Gives (λ x. (x.0, x.1.now)) result (entry_at bytes.now) }
 {
-    let (sign, rest) = units::byte_at(bytes, 1, 2)?;
+    let (sign, rest) = units::byte_at(bytes, 1, 3)?;
     if sign == 1 {
-        command_at(alloc, rest)
-    } else {
-        payload_at(alloc, rest)
+        return command_at(alloc, rest);
     }
+    if sign == 2 {
+        return payload_at(alloc, rest);
+    }
+    origin_payload_at(alloc, rest)
 }
 
 #[tactic(auto, unfolding(crate::specs::Reading::command_at))]
 fn command_at(alloc: Global, bytes: &[u8]) -> Result<(Entry, &[u8]), Unread>
     ensures { Gives (λ x. (x.0, x.1.now)) result (command_at bytes.now) }
 {
-    let (command, rest) = units::long_bytes_at(bytes, 0, MAX_COMMAND)?;
+    let (command, rest) = units::long_bytes_at(bytes, 0, MAX_COMMAND as u32)?;
     Ok((Entry::Admin(Items::from_slice(alloc, command)?), rest))
 }
 
@@ -96,18 +88,72 @@ fn payload_at(alloc: Global, bytes: &[u8]) -> Result<(Entry, &[u8]), Unread>
     Ok((Entry::Message(message), rest))
 }
 
+#[tactic(auto, unfolding(crate::specs::Reading::origin_payload_at))]
+fn origin_payload_at(alloc: Global, bytes: &[u8]) -> Result<(Entry, &[u8]), Unread>
+    ensures { Gives (λ x. (x.0, x.1.now)) result (origin_payload_at bytes.now) }
+{
+    let (message, rest) = origin_message_at(alloc, bytes)?;
+    Ok((Entry::Message(message), rest))
+}
+
+// A message in the first format.
 #[tactic(auto, unfolding(crate::specs::Reading::message_at))]
 fn message_at(alloc: Global, bytes: &[u8]) -> Result<(Message, &[u8]), Unread>
     ensures { Gives (λ x. (x.0, x.1.now)) result (message_at bytes.now) }
 {
-    let (input, rest) = units::short_text_at(alloc, bytes, MAX_INPUT)?;
-    let (peer, rest) = units::short_text_at(alloc, rest, MAX_PEER)?;
-    let (moment, rest) = units::u64_at(rest, MAX_MOMENT)?;
+    let (input, rest) = units::short_text_at(alloc, bytes, MAX_INPUT as u8)?;
+    let (peer, rest) = units::short_text_at(alloc, rest, MAX_PEER as u8)?;
+    received_at(alloc, input, peer, None, rest)
+}
+
+// A message in the second format.
+#[tactic(auto, unfolding(crate::specs::Reading::origin_message_at))]
+fn origin_message_at(alloc: Global, bytes: &[u8]) -> Result<(Message, &[u8]), Unread>
+    ensures { Gives (λ x. (x.0, x.1.now)) result (origin_message_at bytes.now) }
+{
+    let (input, rest) = units::short_text_at(alloc, bytes, MAX_INPUT as u8)?;
+    let (kind, rest) = kind_at(rest)?;
+    let (peer, rest) = units::short_text_at(alloc, rest, MAX_PEER as u8)?;
+    let (port, rest) = units::u16_at(rest, 0, u16::MAX)?;
+    received_at(alloc, input, peer, Some(Origin { kind, port }), rest)
+}
+
+#[tactic(auto, unfolding(crate::specs::Reading::kind_at))]
+fn kind_at(bytes: &[u8]) -> Result<(InputKind, &[u8]), Unread>
+    ensures { Gives (λ x. (x.0, x.1.now)) result (kind_at bytes.now) }
+{
+    let (sign, rest) = units::byte_at(bytes, 0, 2)?;
+    Ok((kind_of(sign), rest))
+}
+
+fn kind_of(sign: u8) -> InputKind
+    ensures { result ≡ kind_of sign }
+{
+    match sign {
+        0 => InputKind::Raw,
+        1 => InputKind::Gelf,
+        _ => InputKind::Syslog,
+    }
+}
+
+// A message of this input, peer and origin, from its moment on.
+#[tactic(auto, unfolding(crate::specs::Reading::received_at))]
+fn received_at(
+    alloc: Global,
+    input: Text,
+    peer: Text,
+    origin: Option<Origin>,
+    bytes: &[u8],
+) -> Result<(Message, &[u8]), Unread>
+    ensures { Gives (λ x. (x.0, x.1.now)) result (received_at input peer origin bytes.now) }
+{
+    let (moment, rest) = units::u64_at(bytes, LAST_MOMENT)?;
     let (version, rest) = units::u64_at(rest, u64::MAX)?;
-    let (payload, rest) = units::long_bytes_at(rest, 1, MAX_PAYLOAD)?;
+    let (payload, rest) = units::long_bytes_at(rest, 1, MAX_PAYLOAD as u32)?;
     let message = Message {
         input,
         peer,
+        origin,
         moment,
         version,
         bytes: Items::from_slice(alloc, payload)?,

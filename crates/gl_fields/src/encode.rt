@@ -5,12 +5,12 @@ ghost use Rattle.std.specs.Int.{to_be_bytes, w16, w64};
 ghost use Rattle.gl_fields.specs.declared.entry.Entry.{Entry};
 ghost use Rattle.gl_fields.specs.declared.entry.Outcome.{Outcome};
 ghost use Rattle.gl_fields.specs.Fields.{value_text};
-ghost use Rattle.gl_fields.specs.Entries.{short_text, long_text, entry_bytes};
+ghost use Rattle.gl_fields.specs.Entries.{short_text, long_text, kind_sign, front_bytes, entry_bytes};
 ghost use Rattle.gl_fields.specs.Outcomes.{value_bytes, field_bytes, cause_bytes, outcome_bytes};
 ghost use Rattle.gl_fields.specs.Bounds.{IsEntry, IsOutcome, IsPayload};
 ghost use Rattle.gl_fields.specs.Places.{HasLengths};
 
-use crate::{Cause, Entry, Field, Message, Outcome, Value};
+use crate::{Cause, Entry, Field, InputKind, Message, Outcome, Value};
 use std::alloc::{AllocError, Global};
 
 /// The bytes of an entry.
@@ -39,8 +39,8 @@ pub fn encode_outcome(alloc: Global, outcome: &Outcome) -> Result<Vec<u8>, Alloc
         Outcome::Applied => out.push(16)?,
         Outcome::Stored { streams, fields } => {
             out.push(17)?;
-            push_ids(&mut out, streams.as_slice())?;
-            push_fields(&mut out, fields.as_slice())?;
+            push_ids(&mut out, streams.get().as_slice())?;
+            push_fields(&mut out, fields.get().as_slice())?;
         }
         Outcome::Dropped => out.push(18)?,
         Outcome::Undecodable(cause) => {
@@ -69,7 +69,7 @@ fn entry_room(entry: &Entry) -> usize {
             .len()
             .saturating_add(message.peer.as_str().len())
             .saturating_add(message.bytes.as_slice().len())
-            .saturating_add(23),
+            .saturating_add(26),
     }
 }
 
@@ -77,10 +77,10 @@ fn outcome_room(outcome: &Outcome) -> usize {
     match outcome {
         Outcome::Applied | Outcome::Dropped => 1,
         Outcome::Stored { streams, fields } => streams
-            .as_slice()
+            .get()
             .len()
             .saturating_mul(8)
-            .saturating_add(fields_room(fields.as_slice()))
+            .saturating_add(fields_room(fields.get().as_slice()))
             .saturating_add(5),
         Outcome::Undecodable(_) => 6,
     }
@@ -119,13 +119,44 @@ fn push_long_text(out: &mut Vec<u8>, text: &[u8]) -> Result<(), AllocError>
     Ok(())
 }
 
+fn kind_sign(kind: InputKind) -> u8
+    ensures { result ≡ kind_sign kind }
+{
+    match kind {
+        InputKind::Raw => 0,
+        InputKind::Gelf => 1,
+        InputKind::Syslog => 2,
+    }
+}
+
+// Where a message came in.
+fn push_front(out: &mut Vec<u8>, message: &Message) -> Result<(), AllocError>
+    requires input { length message.now.input < 256 }
+    requires peer { length message.now.peer < 256 }
+    ensures { OnOk result (out.new.items ≡ out.old.items ++ front_bytes message.now.input message.now.peer message.now.origin) }
+{
+    match message.origin {
+        None => {
+            out.push(2)?;
+            push_short_text(out, message.input.as_str().as_bytes())?;
+            push_short_text(out, message.peer.as_str().as_bytes())?;
+        }
+        Some(origin) => {
+            out.push(3)?;
+            push_short_text(out, message.input.as_str().as_bytes())?;
+            out.push(kind_sign(origin.kind))?;
+            push_short_text(out, message.peer.as_str().as_bytes())?;
+            out.extend_from_slice(&origin.port.to_be_bytes())?;
+        }
+    }
+    Ok(())
+}
+
 fn push_message(out: &mut Vec<u8>, message: &Message) -> Result<(), AllocError>
     requires { IsPayload message.now }
     ensures { OnOk result (out.new.items ≡ out.old.items ++ entry_bytes (Entry.Message message.now)) }
 {
-    out.push(2)?;
-    push_short_text(out, message.input.as_str().as_bytes())?;
-    push_short_text(out, message.peer.as_str().as_bytes())?;
+    push_front(out, message)?;
     out.extend_from_slice(&message.moment.to_be_bytes())?;
     out.extend_from_slice(&message.version.to_be_bytes())?;
     push_long_text(out, message.bytes.as_slice())?;

@@ -1,21 +1,33 @@
 ghost use Rattle.std.specs.Prelude.{◌≡◌, ◌↔◌, IsTrue, IfOk};
 
-use crate::FieldMap;
-use gl_base::{Items, Text};
+use crate::{FieldMap, InputKind};
+use gl_base::{Items, Joint, Text};
 use std::alloc::AllocError;
 
+/// Where a message came from: the kind of its input, and the port of its peer.
+#[derive(Clone, Copy, PartialEq, Eq)]
+pub struct Origin {
+    pub kind: InputKind,
+    /// 0 where none is known.
+    pub port: u16,
+}
+
 /// A payload as it came in.
-#[derive(Debug, Drop)]
+#[derive(Drop)]
 pub struct Message {
     pub input: Text,
     pub peer: Text,
+    /// None of a message in the first format, which keeps no origin.
+    pub origin: Option<Origin>,
+    /// When it came in, in milliseconds since 1970.
     pub moment: u64,
+    /// How many commands stand before it.
     pub version: u64,
     pub bytes: Items<u8>,
 }
 
 /// An entry of the journal.
-#[derive(Debug, Drop)]
+#[derive(Drop)]
 pub enum Entry {
     Admin(Items<u8>),
     Message(Message),
@@ -29,6 +41,7 @@ impl Message {
         Ok(Message {
             input: self.input.copy()?,
             peer: self.peer.copy()?,
+            origin: self.origin,
             moment: self.moment,
             version: self.version,
             bytes: self.bytes.copy()?,
@@ -41,6 +54,7 @@ impl Message {
     {
         self.moment == other.moment
             && self.version == other.version
+            && self.origin == other.origin
             && self.input.same(&other.input)
             && self.peer.same(&other.peer)
             && self.bytes.same(&other.bytes)
@@ -82,12 +96,12 @@ pub enum Cause {
 }
 
 /// What became of an entry.
-#[derive(Debug, Drop)]
+#[derive(Drop)]
 pub enum Outcome {
     Applied,
     Stored {
-        streams: Items<u64>,
-        fields: FieldMap,
+        streams: Joint<Items<u64>>,
+        fields: Joint<FieldMap>,
     },
     Dropped,
     Undecodable(Cause),

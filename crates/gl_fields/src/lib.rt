@@ -9,26 +9,34 @@
 #![tactic(auto)]
 
 mod decode;
-#[cfg(test)]
-mod decode_tests;
 mod encode;
 mod entry;
+mod fault;
 mod field;
 mod input_kind;
-#[cfg(test)]
-mod moving_tests;
+mod limits;
+mod map;
+mod peer;
 mod place;
 mod read_outcome;
 mod rename;
+mod set_rule;
 mod size;
-#[cfg(test)]
-mod tests;
 mod units;
+mod value;
 
 pub use decode::{EntryRefusal, decode_entry};
 pub use encode::{encode_entry, encode_outcome, law_bytes_read_back};
-pub use entry::{Cause, Entry, Message, Outcome};
-pub use field::{Field, FieldMap, FieldRefusal, Value};
+pub use entry::{Cause, Entry, Message, Origin, Outcome};
+pub use fault::DecodeFault;
+pub use field::{Field, FieldRefusal};
 pub use input_kind::InputKind;
+pub use limits::{
+    LAST_MOMENT, MAX_COMMAND, MAX_FIELDS, MAX_INPUT, MAX_NAME, MAX_PAYLOAD, MAX_PEER, MAX_SIZE,
+};
+pub use map::FieldMap;
+pub use peer::split_peer;
 pub use place::is_field_name;
 pub use read_outcome::decode_outcome;
+pub use set_rule::SetRule;
+pub use value::Value;

@@ -6,16 +6,10 @@ ghost use Rattle.std.specs.List.{insert, remove, list_all};
 ghost use Rattle.gl_fields.specs.Fields.{is_name_byte, is_field_name, is_text, field_size, counted_size, with_field, stays, IsValue, IsFieldMap};
 ghost use Rattle.gl_fields.specs.Places.{IsPlaceOf, size_within, size_with};
 
-use crate::{Field, FieldRefusal, Value, size};
+use crate::limits::{MAX_FIELDS, MAX_NAME, MAX_SIZE};
+use crate::{Field, FieldRefusal, Value, field};
 use gl_base::Text;
 use std::alloc::AllocError;
-
-pub const MAX_FIELDS: usize = 256;
-
-// In bytes, as the size of a map is.
-pub const MAX_NAME: usize = 255;
-
-pub const MAX_SIZE: usize = 2_097_152;
 
 // How many free slots a full map grows by: few, since maps are kept in memory for long.
 const SPARE_SLOTS: usize = 4;
@@ -87,7 +81,7 @@ fn size_beside(fields: &[Field], size: usize, place: Result<usize, usize>, name:
     ensures short { result ≤ 2097152 }
 {
     match place {
-        Ok(at) => size - size::field_size(&fields[at]),
+        Ok(at) => size - field::field_size(&fields[at]),
         Err(_) => size,
     }
 }
@@ -197,5 +191,5 @@ pub fn remove_at(fields: &mut Vec<Field>, size: usize, at: usize) -> usize
     ensures size { result ≡ counted_size fields.new.items }
 {
     let field = fields.remove(at);
-    size - size::field_size(&field)
+    size - field::field_size(&field)
 }

@@ -11,8 +11,8 @@ ghost use Rattle.gl_fields.specs.Reading.{id_at, text_value_at, whole_value_at, 
 
 use crate::decode::not_an_entry;
 use crate::units::{self, Unread};
-use crate::{Cause, EntryRefusal, Field, FieldMap, Outcome, Value, place, size};
-use gl_base::{Items, Text};
+use crate::{Cause, EntryRefusal, Field, FieldMap, Outcome, Value, field, limits, place};
+use gl_base::{Items, Joint, Text};
 use std::alloc::Global;
 use std::cmp::Ordering;
 
@@ -112,8 +112,10 @@ fn stored_at(alloc: Global, bytes: &[u8]) -> Result<(Outcome, &[u8]), Unread>
 {
     let (count, rest) = units::u16_at(bytes, 1, u16::MAX)?;
     let (streams, rest) = ids_at(alloc, count, rest)?;
-    let (many, rest) = units::u16_at(rest, 0, place::MAX_FIELDS as u16)?;
+    let (many, rest) = units::u16_at(rest, 0, limits::MAX_FIELDS as u16)?;
     let (fields, rest) = fields_at(alloc, many, rest)?;
+    let streams = Joint::new(alloc, streams)?;
+    let fields = Joint::new(alloc, fields)?;
     Ok((Outcome::Stored { streams, fields }, rest))
 }
 
@@ -164,7 +166,7 @@ fn fields_at(alloc: Global, count: u16, bytes: &[u8]) -> Result<(FieldMap, &[u8]
     let mut rest = bytes;
     for _ in 0..count {
         let (field, after) = field_at(alloc, fields.as_slice(), size, rest)?;
-        size += size::field_size(&field);
+        size += field::field_size(&field);
         fields.push(field)?;
         rest = after;
     }
@@ -183,7 +185,7 @@ fn field_at<'a>(
     requires short { size ≤ 2097152 }
     ensures { Gives (λ x. (x.0, x.1.now)) result (field_at fields.now bytes.now) }
 {
-    let (len, rest) = units::byte_at(bytes, 1, place::MAX_NAME as u8)?;
+    let (len, rest) = units::byte_at(bytes, 1, limits::MAX_NAME as u8)?;
     named_at(alloc, fields, size, len, rest)
 }
 
@@ -250,13 +252,13 @@ fn is_taken(size: usize, field: &Field) -> bool
     }
     let name = field.name.len();
     let text = field.value.text_len();
-    if name > place::MAX_SIZE {
+    if name > limits::MAX_SIZE {
         return false;
     }
-    if text > place::MAX_SIZE {
+    if text > limits::MAX_SIZE {
         return false;
     }
-    size + name + text <= place::MAX_SIZE
+    size + name + text <= limits::MAX_SIZE
 }
 
 #[tactic(auto, unfolding(crate::specs::Reading::value_at))]

@@ -2,13 +2,13 @@
 ghost use Rattle.std.specs.Prelude.{◌≡◌, ◌<◌, ◌≤◌, length, Ok, Err, Some, IfOk, OnOk, OnErr, IfErr, MatchOption};
 ghost use Rattle.std.specs.Vec.{vec_len, vec_capacity};
 ghost use Rattle.std.specs.List.{insert};
-ghost use Rattle.gl_fields.specs.declared.field.Value.{Value};
+ghost use Rattle.gl_fields.specs.declared.value.Value.{Value};
 ghost use Rattle.gl_fields.specs.declared.field.FieldRefusal.TheVariants.{OutOfMemory};
 ghost use Rattle.gl_fields.specs.Fields.{value_of, with_field, without, renamed, refusal_of, counted_size, IsFieldMap};
 ghost use Rattle.gl_fields.specs.Places.{IsPlaceOf};
 
+use crate::field::field_size;
 use crate::place::{position_of, size_with};
-use crate::size::field_size;
 use crate::{Field, FieldRefusal, Value};
 use gl_base::Text;
 

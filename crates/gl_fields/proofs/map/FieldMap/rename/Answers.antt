@@ -2,12 +2,12 @@ use Rattle.std.proofs.Common.{◌≡◌, refl, ap, sym, ◌∙◌, true, false, 
 use Rattle.std.specs.Prelude.{MatchOption, MatchResult}
 use Rattle.std.proofs.lemmas.Result.{err_from_is_err_and}
 use Rattle.std.proofs.lemmas.Slice.Eq.{bytes_eq-Decides}
-use Rattle.gl_fields.specs.declared.field.Value.{Value}
+use Rattle.gl_fields.specs.declared.value.Value.{Value}
 use Rattle.gl_fields.specs.declared.field.FieldRefusal.{FieldRefusal}
 use Rattle.gl_fields.specs.declared.field.FieldRefusal.TheVariants.{Reserved, OutOfMemory}
 use Rattle.gl_fields.specs.Fields.{value_of, without, renamed, settled, refusal_of}
 use Rattle.gl_fields.proofs.Moving.{any_field, value_there, renamed-itself, renamed-none, settled-itself, settled-stays, settled-moves, settled-none, settles_refused, settles_done, tells}
-use Rattle.gl_fields.proofs.field.FieldMap.rename.Goals as goal
+use Rattle.gl_fields.proofs.map.FieldMap.rename.Goals as goal
 
 pub returns-then-eq-clause-ok : goal.returns-then-eq-clause-ok
 returns-then-eq-clause-ok c =

@@ -3,7 +3,7 @@ use Rattle.std.proofs.Common.{ap, sym, ◌∙◌, Some}
 use Rattle.gl_fields.specs.declared.field.Field.{Field}
 use Rattle.gl_fields.specs.Fields.{value_of}
 use Rattle.gl_fields.proofs.Placing.{value_of-old, value_of-new}
-use Rattle.gl_fields.proofs.field.FieldMap.get.Goals as goal
+use Rattle.gl_fields.proofs.map.FieldMap.get.Goals as goal
 
 pub returns-in-Ok : goal.returns-in-Ok
 returns-in-Ok c =

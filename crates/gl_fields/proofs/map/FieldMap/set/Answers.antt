@@ -6,7 +6,7 @@ use Rattle.gl_fields.specs.declared.field.FieldRefusal.{FieldRefusal}
 use Rattle.gl_fields.specs.declared.field.FieldRefusal.TheVariants.{OutOfMemory}
 use Rattle.gl_fields.specs.Fields.{counted_size, refusal_of, with_field}
 use Rattle.gl_fields.proofs.Setting.{IsFieldMap-with_field, sized, refused_so}
-use Rattle.gl_fields.proofs.field.FieldMap.set.Goals as goal
+use Rattle.gl_fields.proofs.map.FieldMap.set.Goals as goal
 
 pub returns-in_err-size-clause-cause : goal.returns-in_err-size-clause-cause
 returns-in_err-size-clause-cause c =

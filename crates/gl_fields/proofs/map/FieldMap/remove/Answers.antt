@@ -1,7 +1,7 @@
 use Rattle.std.proofs.Common.{refl, ap, sym, ◌∙◌}
 use Rattle.gl_fields.specs.Fields.{without, removal}
 use Rattle.gl_fields.proofs.Moving.{removed, removal-there, without-new, removal-none, IsFieldMap-without}
-use Rattle.gl_fields.proofs.field.FieldMap.remove.Goals as goal
+use Rattle.gl_fields.proofs.map.FieldMap.remove.Goals as goal
 
 pub returns-then-stays-clause-answer : goal.returns-then-stays-clause-answer
 returns-then-stays-clause-answer c =

@@ -1,5 +1,5 @@
 use Rattle.std.proofs.Common.{◌≡◌, take}
-use Rattle.gl_fields.proofs.field.copy_fields.Given as goal
+use Rattle.gl_fields.proofs.map.copy_fields.Given as goal
 
 abbrev pub invariant-loop-field : goal.invariant-loop-field
 invariant-loop-field l = l.copies.items ≡ take l.field-index l.fields
