@@ -1,13 +1,6 @@
-pub mod Parts
-pub mod Feeding
 pub mod Numbers
 pub mod Shifting
-pub mod Formed
-pub mod Saying
 pub mod Naming
 pub mod Setting
 pub mod Moments
-pub mod Beginning
-pub mod Keeping
-pub mod Messages
-pub mod Indexing
+pub mod Objects

@@ -6,12 +6,12 @@ use Rattle.std.proofs.lemmas.List.{length-append}
 use Rattle.std.proofs.lemmas.Bool.Decides.{nat_tests}
 use Rattle.std.proofs.lemmas.Nat.{pow-add, le-div}
 use Rattle.std.proofs.lemmas.Bool.{cases_lt, lt-ltb, false≢true}
+use Rattle.gl_base.specs.Bytes.{is_digit, behind_first}
 use Rattle.gl_base.specs.Digits.{decimal}
-use Rattle.gl_json.specs.Numbers.{is_digit}
-use Rattle.gl_json.specs.Reading.{behind_first}
 use Rattle.gl_gelf.specs.declared.number.Number.{Number}
 use Rattle.gl_gelf.specs.Decimals.{significand, exponent, is_lowered, rises, falls, milliseconds, moment_in, moment_of}
-use Rattle.gl_gelf.specs.Digits.{within, digits_within, IsNumberIn}
+use Rattle.gl_base.specs.Digits.{within, digits_within}
+use Rattle.gl_gelf.specs.NumberParts.{IsNumberIn}
 use Rattle.gl_gelf.proofs.Numbers.{grows, decimal-append, all_within}
 use Rattle.gl_gelf.proofs.Shifting.{shift, all_append, all_take, within_none, within_above, within_some}
 

@@ -6,7 +6,7 @@ use Rattle.std.specs.Cow.{cow_str_bytes}
 use Rattle.std.specs.Str.{bytes_eq}
 use Rattle.gl_gelf.specs.declared.members.Named.{Named}
 use Rattle.gl_gelf.specs.Members.{has_name, are_last}
-use Rattle.gl_gelf.specs.Stops.{named_view}
+use Rattle.gl_gelf.specs.Parts.{named_view}
 
 pub any_map : (name : List ℕ) (ms : List Named) → list_any (has_name name) (map named_view ms) ≡ list_any (λ n. bytes_eq (cow_str_bytes n.name) name) ms
 any_map name [] = refl

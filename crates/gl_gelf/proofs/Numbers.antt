@@ -1,19 +1,13 @@
 -- Numbers that digits write.
-use Rattle.std.proofs.Common.{◌≡◌, ℕ, suc, ◌+◌, ◌-◌, ◌*◌, ◌^◌, ◌≤◌, ◌<◌, Bool, true, false, cond, ◌&&◌, List, [], ◌∷◌, ◌++◌, length, take, drop, min, refl, sym, ap, ◌∙◌, arith, leb, eqb, get_or, Option, None, inl, inr}
+use Rattle.std.proofs.Common.{◌≡◌, ℕ, suc, ◌+◌, ◌-◌, ◌*◌, ◌^◌, ◌≤◌, ◌<◌, Bool, true, false, cond, List, [], ◌∷◌, ◌++◌, length, take, drop, min, refl, sym, ap, ◌∙◌, arith, leb, eqb, get_or, None, inl, inr}
 use Rattle.std.specs.List.{list_all}
 use Rattle.std.proofs.Math.Nat.{pow-suc, one-le-pow, pow-succ', mul_comm, mul_assoc, mul-le-mul_left}
 use Rattle.std.proofs.lemmas.Bool.{and_parts, cases_lt, leb-true, leb-false, le-leb, lt-leb}
 use Rattle.std.proofs.lemmas.List.{take_all}
 use Rattle.std.proofs.lemmas.Bool.Decides.{nat_tests}
+use Rattle.gl_base.specs.Bytes.{is_digit}
 use Rattle.gl_base.specs.Digits.{decimal}
-use Rattle.gl_json.specs.Numbers.{is_digit}
-use Rattle.gl_json.specs.Flattening.{magnitude_from}
-use Rattle.gl_gelf.specs.Digits.{digits_within, within}
-
-pub same_magnitude : (n : ℕ) (ds : List ℕ) → magnitude_from n ds ≡ digits_within 9223372036854775808 n ds
-unfolding magnitude_from digits_within
-same_magnitude n [] = refl
-same_magnitude n (d ∷ ds) = ap (λ (x : Option ℕ). cond (is_digit d && leb (n * 10 + (d - 48)) 9223372036854775808) x None) (same_magnitude (n * 10 + (d - 48)) ds)
+use Rattle.gl_base.specs.Digits.{digits_within, within}
 
 -- a number doesn't fall as digits are put behind it
 pub grows : (n : ℕ) (ds : List ℕ) → n ≤ decimal n ds

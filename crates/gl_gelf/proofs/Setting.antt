@@ -1,14 +1,14 @@
 -- Fields set one behind the other.
-use Rattle.std.proofs.Common.{◌≡◌, ℕ, List, [], ◌∷◌, ◌++◌, suc, zero, ◌+◌, ◌<◌, Bool, true, false, not, cond, map, drop, get_or, length, codes, pos, Option, Some, None, ◌-◌, ◌≤◌, Ok, Err, Result, subst, arith, refl, sym, ap, ◌∙◌}
+use Rattle.std.proofs.Common.{◌≡◌, ℕ, List, [], ◌∷◌, ◌++◌, suc, zero, ◌+◌, ◌<◌, Bool, true, false, not, cond, map, drop, get_or, length, codes, pos, Option, Some, None, ◌-◌, ◌≤◌, Ok, Err, Result, subst, arith, refl, sym, ap, ap₂, ◌||◌, ◌∙◌}
 use Rattle.gl_fields.specs.declared.entry.Cause.{Cause}
 use Rattle.gl_fields.specs.declared.field.Field.{Field}
-use Rattle.gl_fields.specs.Fields.{refusal_of}
 use Rattle.std.specs.Cow.{cow_str_bytes}
-use Rattle.std.specs.List.{flat_map, list_any}
+use Rattle.std.specs.List.{fold, flat_map, list_any}
+use Rattle.std.proofs.lemmas.List.Sums.{fold-append}
 use Rattle.std.proofs.lemmas.List.{drop_more, drop_all}
 use Rattle.gl_fields.specs.declared.entry.Cause.TheVariants as causes
-use Rattle.gl_fields.specs.declared.field.Value.{Value as Held}
-use Rattle.gl_fields.specs.declared.field.Value.TheVariants.{Whole}
+use Rattle.gl_fields.specs.declared.value.Value.{Value as Held}
+use Rattle.gl_fields.specs.declared.value.Value.TheVariants.{Whole}
 use Rattle.gl_json.specs.declared.bytes.Stop.{Stop as JsonStop}
 use Rattle.gl_json.specs.declared.bytes.Stop.TheVariants.{At, Deep}
 use Rattle.gl_json.specs.declared.refusal.JsonRefusal.{JsonRefusal}
@@ -17,35 +17,33 @@ use Rattle.gl_json.specs.Places.{refused, object_of, Answers}
 use Rattle.gl_json.specs.Reading.{whole_at}
 use Rattle.gl_json.specs.Grammar.{Value, Pair}
 use Rattle.gl_gelf.specs.declared.members.Named.{Named}
-use Rattle.gl_gelf.specs.declared.stop.Stop.{Stop}
-use Rattle.gl_gelf.specs.declared.stop.Stop.TheVariants as stops
+use Rattle.gl_fields.specs.declared.fault.DecodeFault.{DecodeFault}
+use Rattle.gl_fields.specs.declared.fault.DecodeFault.TheVariants as faults
 use Rattle.gl_gelf.specs.Members.{has_name, counted, are_last, value_named}
-use Rattle.gl_gelf.specs.Stops.{Sets, Makes, named_view, IsRefusalOf}
-use Rattle.gl_fields.specs.Putting.{text_field}
-use Rattle.gl_gelf.specs.Decoding.{set_one, then_set, set_all, additional, source, timestamp, level, full_message, named_fields, short_message, fields_behind, fields_of}
+use Rattle.gl_gelf.specs.Parts.{put_all, named_view, IsRefusalOf}
+use Rattle.gl_fields.specs.Putting.{text_field, then_put, IsPut, IsDecoded}
+use Rattle.gl_fields.specs.Fields.{is_field_name}
+use Rattle.gl_gelf.specs.Decoding.{is_named, is_reserved, field_name, given, held, additional, source, timestamp, level, full_message, named_fields, short_message, fields_behind, fields_of}
 
-then_assoc : (xs ys : List Field) (r : Result (List Field) Cause) → ((m : List Field) → set_all (xs ++ ys) m ≡ then_set (set_all ys) (set_all xs m)) → then_set (set_all (xs ++ ys)) r ≡ then_set (set_all ys) (then_set (set_all xs) r)
-then_assoc xs ys (Ok m) h = h m
-then_assoc xs ys (Err c) h = refl
+stays : (cause : Cause) (fs : List Field) → fold then_put (Err cause) fs ≡ Err cause
+stays cause [] = refl
+stays cause (f ∷ fs) = stays cause fs
 
-pub set_both : (xs ys m : List Field) → set_all (xs ++ ys) m ≡ then_set (set_all ys) (set_all xs m)
-unfolding set_all
-set_both [] ys m = refl
-set_both (x ∷ xs) ys m = then_assoc xs ys (set_one (refusal_of x m) x m) (set_both xs ys)
+-- behind fields that were put
+pub set_ok : (xs ys m n : List Field) → put_all xs m ≡ Ok n → put_all (xs ++ ys) m ≡ put_all ys n
+unfolding put_all
+set_ok xs ys m n e = fold-append then_put (Ok m) xs ys ∙ ap (λ r. fold then_put r ys) e
 
--- behind fields that were set
-pub set_ok : (xs ys m n : List Field) → set_all xs m ≡ Ok n → set_all (xs ++ ys) m ≡ set_all ys n
-set_ok xs ys m n e = set_both xs ys m ∙ ap (then_set (set_all ys)) e
+pub set_err : (xs ys m : List Field) (c : Cause) → put_all xs m ≡ Err c → put_all (xs ++ ys) m ≡ Err c
+unfolding put_all
+set_err xs ys m c e = fold-append then_put (Ok m) xs ys ∙ ap (λ r. fold then_put r ys) e ∙ stays c ys
 
-pub set_err : (xs ys m : List Field) (c : Cause) → set_all xs m ≡ Err c → set_all (xs ++ ys) m ≡ Err c
-set_err xs ys m c e = set_both xs ys m ∙ ap (then_set (set_all ys)) e
+pub sets_err : (xs ys m n k : List Field) (e : DecodeFault) → IsPut {X = Unit {0}} (put_all xs m) (Err e) n → IsPut {X = Unit {0}} (put_all (xs ++ ys) m) (Err e) k
+sets_err xs ys m n k (faults.Undecodable c) h = set_err xs ys m c h
+sets_err xs ys m n k faults.OutOfMemory h = tt
 
-pub sets_err : (xs ys m n k : List Field) (e : Stop) → Sets {X = Unit {0}} (Err e) n (set_all xs m) → Sets {X = Unit {0}} (Err e) k (set_all (xs ++ ys) m)
-sets_err xs ys m n k (stops.Refused c) h = set_err xs ys m c h
-sets_err xs ys m n k stops.OutOfMemory h = tt
-
-pub sets_ok : (xs ys m n k : List Field) (r : Result (Unit {0}) Stop) → set_all xs m ≡ Ok n → Sets r k (set_all ys n) → Sets r k (set_all (xs ++ ys) m)
-sets_ok xs ys m n k r e h = subst (Sets r k) (sym (set_ok xs ys m n e)) h
+pub sets_ok : (xs ys m n k : List Field) (r : Result (Unit {0}) DecodeFault) → put_all xs m ≡ Ok n → IsPut (put_all ys n) r k → IsPut (put_all (xs ++ ys) m) r k
+sets_ok xs ys m n k r e h = subst (λ (w : Result (List Field) Cause). IsPut w r k) (sym (set_ok xs ys m n e)) h
 
 -- the members that count
 
@@ -93,18 +91,18 @@ same_length (m ∷ ms) = ap suc (same_length ms)
 -- the whole message
 
 pub fields_is : (moment : ℕ) (peer message : List ℕ) (ms : List Pair) → short_message (value_named (codes "short_message") ms) ≡ Some message
-    → fields_of moment peer ms ≡ set_all (named_fields moment peer message ms ++ flat_map additional (counted ms)) []
-unfolding fields_of
+    → fields_of moment peer ms ≡ put_all (named_fields moment peer message ms ++ flat_map additional (counted ms)) []
+unfolding fields_of put_all
 fields_is moment peer message ms e = ap (fields_behind moment peer ms) e
 
 pub no_fields : (moment : ℕ) (peer : List ℕ) (ms : List Pair) → short_message (value_named (codes "short_message") ms) ≡ None → fields_of moment peer ms ≡ Err causes.NoShortMessage
 unfolding fields_of
 no_fields moment peer ms e = ap (fields_behind moment peer ms) e
 
-pub makes_err : (moment : ℕ) (peer message : List ℕ) (ms : List Pair) (n : List Field) (e : Stop) → short_message (value_named (codes "short_message") ms) ≡ Some message
-    → Sets {X = Unit {0}} (Err e) n (set_all (named_fields moment peer message ms ++ flat_map additional (counted ms)) []) → Makes (Err e) (fields_of moment peer ms)
-makes_err moment peer message ms n (stops.Refused c) some h = fields_is moment peer message ms some ∙ h
-makes_err moment peer message ms n stops.OutOfMemory some h = tt
+pub makes_err : (moment : ℕ) (peer message : List ℕ) (ms : List Pair) (n : List Field) (e : DecodeFault) → short_message (value_named (codes "short_message") ms) ≡ Some message
+    → IsPut {X = Unit {0}} (put_all (named_fields moment peer message ms ++ flat_map additional (counted ms)) []) (Err e) n → IsDecoded (fields_of moment peer ms) (Err e)
+makes_err moment peer message ms n (faults.Undecodable c) some h = fields_is moment peer message ms some ∙ h
+makes_err moment peer message ms n faults.OutOfMemory some h = tt
 
 refused_at : (bytes : List ℕ) (at : ℕ) (r : Result (List Pair) JsonStop) → refused bytes r ≡ Err (json.NotJson at) → at ≤ length bytes
 refused_at bytes at (Ok ms) e = absurd cc
@@ -116,11 +114,29 @@ unfolding object_of
 at_within bytes at e = refused_at bytes at (whole_at bytes) e
 
 -- all members were set
-pub done_all : (ms : List Named) (i : ℕ) (fields : List Field) → length ms ≤ i → set_all (flat_map additional (counted (map named_view (drop i ms)))) fields ≡ Ok fields
-unfolding set_all counted
-done_all ms i fields h = ap (λ (l : List Named). set_all (flat_map additional (counted (map named_view l))) fields) (drop_all i ms h)
+pub done_all : (ms : List Named) (i : ℕ) (fields : List Field) → length ms ≤ i → put_all (flat_map additional (counted (map named_view (drop i ms)))) fields ≡ Ok fields
+unfolding put_all counted
+done_all ms i fields h = ap (λ (l : List Named). put_all (flat_map additional (counted (map named_view l))) fields) (drop_all i ms h)
 
 pub refusal_is : {X : Type 0} (view : X → List Pair) (bytes : List ℕ) (r : JsonRefusal) → Answers {X = X} {Y = List Pair} view (Err r) (object_of bytes) → IsRefusalOf r bytes
 refusal_is view bytes (json.NotJson at) h = h
 refusal_is view bytes json.TooDeep h = h
 refusal_is view bytes json.OutOfMemory h = tt
+
+-- an additional member whose value gives a field
+pub additional_put : (name short : List ℕ) (m : Pair) (value : Held) (fields new : List Field) (r : Result (Unit {0}) DecodeFault) → name ≡ m.name → short ≡ field_name name → is_named name ≡ false → is_reserved short ≡ false → held m.value ≡ Some value
+    → (is_field_name short ≡ true → IsPut (put_all (record { name = short; value = value } ∷ []) fields) r new) → (is_field_name short ≡ false → IsPut (Ok fields) r new)
+    → IsPut (put_all (additional m) fields) r new
+unfolding additional put_all
+additional_put name short m value fields new r name_is short_is other free gives lawful unlawful =
+    let short_now : field_name m.name ≡ short = ap field_name (sym name_is) ∙ sym short_is in
+    let first : is_named m.name ≡ false = ap is_named (sym name_is) ∙ other in
+    let second : is_reserved (field_name m.name) ≡ false = ap is_reserved short_now ∙ free in
+    subst (λ (l : List Field). IsPut (fold then_put (Ok fields) l) r new)
+    (sym (ap₂ (λ (a b : Bool). cond (a || b || not (is_field_name (field_name m.name))) [] (given (field_name m.name) (held m.value))) first second
+    ∙ ap₂ (λ (n : List ℕ) (v : Option Held). cond (not (is_field_name n)) [] (given n v)) short_now gives))
+    (by (is_field_name short) refl)
+  where
+    by : (t : Bool) → is_field_name short ≡ t → IsPut (fold then_put (Ok fields) (cond (not (is_field_name short)) [] (record { name = short; value = value } ∷ []))) r new
+    by true e = subst (λ (b : Bool). IsPut (fold then_put (Ok fields) (cond (not b) [] (record { name = short; value = value } ∷ []))) r new) (sym e) (lawful e)
+    by false e = subst (λ (b : Bool). IsPut (fold then_put (Ok fields) (cond (not b) [] (record { name = short; value = value } ∷ []))) r new) (sym e) (unlawful e)

@@ -5,9 +5,9 @@ use Rattle.std.proofs.Math.Nat.{one-le-pow, pow-le-pow_right, mul_assoc, mul-le-
 use Rattle.std.proofs.lemmas.List.{take-append-drop, take_all, length-drop}
 use Rattle.std.proofs.lemmas.Nat.{pow-add, div-mul-add}
 use Rattle.std.proofs.lemmas.Bool.{and_parts, cases_lt}
+use Rattle.gl_base.specs.Bytes.{is_digit}
 use Rattle.gl_base.specs.Digits.{decimal}
-use Rattle.gl_json.specs.Numbers.{is_digit}
-use Rattle.gl_gelf.specs.Digits.{within}
+use Rattle.gl_base.specs.Digits.{within}
 use Rattle.gl_gelf.proofs.Numbers.{decimal-append, decimal_behind, decimal_low}
 
 all_drop : (p : ℕ → Bool) (n : ℕ) (xs : List ℕ) → list_all p xs ≡ true → list_all p (drop n xs) ≡ true

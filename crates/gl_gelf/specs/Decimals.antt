@@ -1,10 +1,9 @@
 -- Texts that are a JSON number (RFC 8259, section 6), and the moment that such a number of seconds is.
 use Rattle.std.specs.Prelude.{ℕ, ◌+◌, ◌*◌, ◌/◌, ◌^◌, Bool, not, ◌&&◌, List, [], ◌∷◌, ◌++◌, length, take, drop, nat_le, nat_lt, if◌then◌else◌, Option, Some, None, ℤ}
 use Rattle.std.specs.List.{prefix_len}
-use Rattle.gl_base.specs.Digits.{decimal}
-use Rattle.gl_json.specs.Numbers.{is_digit, is_int, is_frac, is_sign, is_exp}
-use Rattle.gl_json.specs.Reading.{next_is, behind_first}
-use Rattle.gl_json.specs.Flattening.{whole_of}
+use Rattle.gl_base.specs.Bytes.{is_digit, is_sign, next_is, behind_first}
+use Rattle.gl_base.specs.Digits.{decimal, whole_of}
+use Rattle.gl_json.specs.Numbers.{is_int, is_frac, is_exp}
 
 -- the digits at the front, and what stands behind them
 abbrev pub digits_of : List ℕ → List ℕ
@@ -28,14 +27,14 @@ abbrev pub behind_int : List ℕ → List ℕ
 behind_int text = behind_digits (unsigned text)
 
 -- behind the digits: a point and the digits behind it, and what stands behind these
-unfoldable pub frac_at : List ℕ → List ℕ
-frac_at rest = if next_is 46 rest then 46 ∷ digits_of (behind_first rest) else []
+unfoldable pub point_at : List ℕ → List ℕ
+point_at rest = if next_is 46 rest then 46 ∷ digits_of (behind_first rest) else []
 
 unfoldable pub behind_frac : List ℕ → List ℕ
 behind_frac rest = if next_is 46 rest then behind_digits (behind_first rest) else rest
 
 abbrev pub frac_of : List ℕ → List ℕ
-frac_of text = frac_at (behind_int text)
+frac_of text = point_at (behind_int text)
 
 abbrev pub exp_of : List ℕ → List ℕ
 exp_of text = behind_frac (behind_int text)

@@ -1,24 +1,24 @@
 -- The fields of a GELF message (GELF 1.1): those that it names, and the additional ones.
-use Rattle.std.specs.Prelude.{ℕ, ℤ, pos, Bool, not, ◌&&◌, ◌||◌, ◌==◌, nat_le, List, [], ◌∷◌, ◌++◌, length, map, slice_index, if◌then◌else◌, Option, Some, None, unwrap_or, Result, Ok, Err, codes}
+use Rattle.std.specs.Prelude.{ℕ, ℤ, ⊤, pos, Bool, not, ◌&&◌, ◌||◌, ◌==◌, nat_le, List, [], ◌∷◌, ◌++◌, length, map, slice_index, if◌then◌else◌, Option, Some, None, unwrap_or, Result, Ok, Err, codes}
 use Rattle.std.specs.List.{list_any, flat_map}
 use Rattle.std.specs.Str.{bytes_eq}
 use Rattle.gl_fields.specs.declared.entry.Cause.{Cause}
 use Rattle.gl_fields.specs.declared.entry.Cause.TheVariants as causes
 use Rattle.gl_fields.specs.declared.field.Field.{Field}
-use Rattle.gl_fields.specs.declared.field.FieldRefusal.{FieldRefusal}
-use Rattle.gl_fields.specs.declared.field.FieldRefusal.TheVariants as refusals
-use Rattle.gl_fields.specs.declared.field.Value.{Value as Held}
-use Rattle.gl_fields.specs.declared.field.Value.TheVariants.{Text}
-use Rattle.gl_fields.specs.Fields.{is_field_name, refusal_of, with_field}
-use Rattle.gl_fields.specs.Putting.{text_field, whole_field}
+use Rattle.gl_fields.specs.declared.value.Value.{Value as Held}
+use Rattle.gl_fields.specs.declared.value.Value.TheVariants.{Text}
+use Rattle.gl_base.specs.Bytes.{next_is, behind_first}
+use Rattle.gl_base.specs.Digits.{whole_of}
+use Rattle.gl_fields.specs.Fields.{is_field_name}
+use Rattle.gl_fields.specs.Putting.{text_field, whole_field, map_with}
 use Rattle.gl_json.specs.declared.refusal.JsonRefusal.{JsonRefusal}
 use Rattle.gl_json.specs.declared.refusal.JsonRefusal.TheVariants as json
 use Rattle.gl_json.specs.Grammar.{Value, text, number, yes_, no_, null, object, array, Pair}
-use Rattle.gl_json.specs.Flattening.{whole_of, number_field}
-use Rattle.gl_json.specs.Reading.{next_is, behind_first}
+use Rattle.gl_json.specs.Escapes.{said}
+use Rattle.gl_json.specs.Flattening.{number_field}
 use Rattle.gl_json.specs.Places.{object_of}
 use Rattle.gl_gelf.specs.Decimals.{whole_in, moment_of}
-use Rattle.gl_gelf.specs.Members.{said, with_said_name, counted, value_named}
+use Rattle.gl_gelf.specs.Members.{with_said_name, counted, value_named}
 
 -- a payload that begins as gzip does (RFC 1952, section 2.3.1), or as zlib at one of its levels (RFC 1950, section 2.2)
 abbrev pub is_compressed : List ℕ → Bool
@@ -84,35 +84,17 @@ abbrev pub field_name : List ℕ → List ℕ
 field_name name = if next_is 95 name then behind_first name else name
 
 -- a name that no additional field has
-abbrev pub is_taken : List ℕ → Bool
-is_taken name = is_among (codes "id" ∷ codes "message" ∷ codes "source" ∷ codes "timestamp" ∷ codes "level" ∷ codes "full_message" ∷ []) name
+abbrev pub is_reserved : List ℕ → Bool
+is_reserved name = is_among (codes "id" ∷ codes "message" ∷ codes "source" ∷ codes "timestamp" ∷ codes "level" ∷ codes "full_message" ∷ []) name
 
 abbrev pub given : List ℕ → Option Held → List Field
 given name None = []
 given name (Some value) = record { name = name; value = value } ∷ []
 
 unfoldable pub additional : Pair → List Field
-additional m = if is_named m.name || is_taken (field_name m.name) || not (is_field_name (field_name m.name)) then [] else given (field_name m.name) (held m.value)
+additional m = if is_named m.name || is_reserved (field_name m.name) || not (is_field_name (field_name m.name)) then [] else given (field_name m.name) (held m.value)
 
 -- The whole message.
-
--- a lawful name is refused for nothing else
-abbrev pub cause_of : FieldRefusal → Cause
-cause_of refusals.TooLarge = causes.TooLarge
-cause_of other = causes.TooManyFields
-
-abbrev pub set_one : Option FieldRefusal → Field → List Field → Result (List Field) Cause
-set_one None field fields = Ok (with_field field fields)
-set_one (Some refusal) field fields = Err (cause_of refusal)
-
-abbrev pub then_set : (List Field → Result (List Field) Cause) → Result (List Field) Cause → Result (List Field) Cause
-then_set more (Ok fields) = more fields
-then_set more (Err cause) = Err cause
-
--- the map with these fields, set one behind the other, or the cause of the first that is refused
-unfoldable pub set_all : List Field → List Field → Result (List Field) Cause
-set_all [] fields = Ok fields
-set_all (field ∷ more) fields = then_set (set_all more) (set_one (refusal_of field fields) field fields)
 
 -- the fields that a message names, in the order in which they are set
 abbrev pub named_fields : ℕ → List ℕ → List ℕ → List Pair → List Field
@@ -125,7 +107,7 @@ named_fields moment peer message ms =
 
 abbrev pub fields_behind : ℕ → List ℕ → List Pair → Option (List ℕ) → Result (List Field) Cause
 fields_behind moment peer ms None = Err causes.NoShortMessage
-fields_behind moment peer ms (Some message) = set_all (named_fields moment peer message ms ++ flat_map additional (counted ms)) []
+fields_behind moment peer ms (Some message) = map_with (named_fields moment peer message ms ++ flat_map additional (counted ms))
 
 unfoldable pub fields_of : ℕ → List ℕ → List Pair → Result (List Field) Cause
 fields_of moment peer ms = fields_behind moment peer ms (short_message (value_named (codes "short_message") ms))
@@ -142,3 +124,9 @@ of_object moment peer (Err refusal) = Err (refusal_cause refusal)
 -- the fields of a payload that came in at this moment from this peer, or why it has none
 unfoldable pub gelf_fields : ℕ → List ℕ → List ℕ → Result (List Field) Cause
 gelf_fields moment peer bytes = if is_compressed bytes then Err causes.Compressed else of_object moment peer (object_of bytes)
+
+-- a payload that is no object of at most 64 levels, or in which a 65th opens
+abbrev pub IsRefused : Result (List Field) Cause → Type 0
+IsRefused (Err (causes.NotJson at)) = ⊤
+IsRefused (Err causes.TooDeep) = ⊤
+IsRefused other = ⊥

@@ -1,11 +1,5 @@
-pub mod Frames
-pub mod Taking
-pub mod Chunks
 pub mod Decimals
 pub mod Members
 pub mod Decoding
-pub mod Stops
-pub mod Digits
-pub mod Growing
-pub mod Openings
-pub mod Rows
+pub mod Parts
+pub mod NumberParts

@@ -1,19 +1,10 @@
 -- The members of a GELF message under the names that they say, of which equal ones count once: the last counts, at its
 -- own place.
-use Rattle.std.specs.Prelude.{ℕ, Bool, not, List, [], ◌∷◌, if◌then◌else◌, Option, Some, None, Result, Ok, Err}
+use Rattle.std.specs.Prelude.{ℕ, Bool, not, List, [], ◌∷◌, if◌then◌else◌, Option, Some, None}
 use Rattle.std.specs.List.{list_any}
 use Rattle.std.specs.Str.{bytes_eq}
-use Rattle.gl_json.specs.declared.refusal.JsonRefusal.{JsonRefusal}
 use Rattle.gl_json.specs.Grammar.{Value, Pair}
-use Rattle.gl_json.specs.Escapes.{text_of}
-
--- what a string says; what isn't the inside of a string says nothing
-abbrev pub text_or_nothing : Result (List ℕ) JsonRefusal → List ℕ
-text_or_nothing (Ok text) = text
-text_or_nothing (Err refusal) = []
-
-abbrev pub said : List ℕ → List ℕ
-said raw = text_or_nothing (text_of raw)
+use Rattle.gl_json.specs.Escapes.{said}
 
 -- a member under the name that it says
 abbrev pub with_said_name : Pair → Pair

@@ -4,22 +4,23 @@ ghost use Rattle.std.specs.List.{All, flat_map};
 ghost use Rattle.std.specs.Str.{IsUtf8};
 ghost use Rattle.std.specs.String.{string_bytes};
 ghost use Rattle.gl_fields.specs.Fields.{is_field_name};
-ghost use Rattle.gl_fields.specs.declared.field.Value.TheVariants as values;
-ghost use Rattle.gl_json.specs.Flattening.{IsFormed, IsFormedPair, number_field, whole_of};
+ghost use Rattle.gl_fields.specs.declared.value.Value.TheVariants as values;
+ghost use Rattle.gl_base.specs.Digits.{whole_of};
+ghost use Rattle.gl_json.specs.Flattening.{IsFormed, IsFormedPair, number_field};
 ghost use Rattle.gl_json.specs.Places.{object_of};
 ghost use Rattle.gl_json.specs.Views.{value_view, pair_view};
 ghost use Rattle.gl_gelf.specs.Members.{with_said_name, counted, are_last, value_named};
-ghost use Rattle.gl_gelf.specs.Stops.{named_view, Sets, Makes, IsRefusalOf};
-ghost use Rattle.gl_fields.specs.Putting.{text_field, whole_field};
-ghost use Rattle.gl_gelf.specs.Decoding.{is_compressed, some_text, short_message, source, timestamp, level, full_message, held, is_named, field_name, is_taken, additional, set_all, named_fields, fields_of, of_object, gelf_fields};
+ghost use Rattle.gl_gelf.specs.Parts.{named_view, put_all, IsRefusalOf};
+ghost use Rattle.gl_fields.specs.Putting.{text_field, whole_field, IsPut, IsDecoded};
+ghost use Rattle.gl_gelf.specs.Decoding.{is_compressed, some_text, short_message, source, timestamp, level, full_message, held, is_named, field_name, is_reserved, additional, named_fields, fields_of, of_object, gelf_fields};
 
 use crate::members::{self, Named, said};
 use crate::moment::moment_of;
-use crate::number::{whole_in, whole_of};
-use crate::stop::Stop;
+use crate::number::whole_in;
 use gl_base::Text;
-use gl_fields::{Cause, FieldMap, FieldRefusal, Value};
-use gl_json::{JsonRefusal, Member, Raw, read_object};
+use gl_base::whole::whole_of;
+use gl_fields::{Cause, DecodeFault, FieldMap, FieldRefusal, Value};
+use gl_json::{JsonRefusal, Member, Raw, law_parts_are_utf8, read_object};
 use std::alloc::{AllocError, Global};
 use std::str;
 
@@ -49,11 +50,12 @@ fn plain_text(alloc: Global, bytes: &[u8]) -> Result<Text, AllocError>
     }
 }
 
-#[tactic(auto, using(crate::proofs::Formed::utf8_number), unfolding(crate::specs::Decoding::short_message))]
+#[tactic(auto, unfolding(crate::specs::Decoding::short_message))]
 fn short_message(alloc: Global, value: Option<Raw>) -> Result<Option<Text>, AllocError>
     requires { IfSome value (λ v. IsFormed 63 (value_view v)) }
     ensures { IfOk result (λ t. t ≡ short_message (option_map value_view value.entry)) }
 {
+    law_parts_are_utf8();
     match value {
         Some(Raw::Text(raw)) => Ok(some_text(said(alloc, raw)?)),
         Some(Raw::Number(literal)) => Ok(Some(plain_text(alloc, literal)?)),
@@ -130,11 +132,12 @@ fn number_value(alloc: Global, literal: &[u8]) -> Result<Option<Value>, AllocErr
 }
 
 /// What a value gives: null gives nothing.
-#[tactic(auto, using(crate::proofs::Formed::utf8_number, crate::proofs::Formed::utf8_array, crate::proofs::Formed::utf8_object), unfolding(crate::specs::Decoding::held))]
+#[tactic(auto, unfolding(crate::specs::Decoding::held))]
 fn held(alloc: Global, value: &Raw) -> Result<Option<Value>, AllocError>
     requires { IsFormed 63 (value_view value.now) }
     ensures { IfOk result (λ h. h ≡ held (value_view value.now)) }
 {
+    law_parts_are_utf8();
     match *value {
         Raw::Null => Ok(None),
         Raw::Text(raw) => Ok(Some(Value::Text(Text::from_string(said(alloc, raw)?)))),
@@ -147,25 +150,23 @@ fn held(alloc: Global, value: &Raw) -> Result<Option<Value>, AllocError>
 }
 
 /// Sets a field whose name is lawful.
-#[tactic(auto, unfolding(crate::specs::Decoding::set_all))]
-fn put(fields: &mut FieldMap, name: &str, value: Value) -> Result<(), Stop>
-    ensures { Sets result fields.new (set_all ((record { name = name.now; value = value }) ∷ []) fields.old) }
+#[tactic(auto, unfolding(crate::specs::Parts::put_all))]
+fn put(fields: &mut FieldMap, name: &str, value: Value) -> Result<(), DecodeFault>
+    ensures { IsPut (put_all ((record { name = name.now; value = value }) ∷ []) fields.old) result fields.new }
 {
-    match fields.set(name, value) {
-        Ok(()) => Ok(()),
-        Err(FieldRefusal::OutOfMemory) => Err(Stop::OutOfMemory),
-        Err(FieldRefusal::TooLarge) => Err(Stop::Refused(Cause::TooLarge)),
-        Err(FieldRefusal::TooManyFields) => Err(Stop::Refused(Cause::TooManyFields)),
-        Err(FieldRefusal::BadFieldName) => Err(Stop::Refused(Cause::TooManyFields)),
-        Err(FieldRefusal::Reserved) => Err(Stop::Refused(Cause::TooManyFields)),
-    }
+    fields.set(name, value)?;
+    Ok(())
 }
 
 /// Sets `full_message`, where it is a text.
-#[tactic(auto, unfolding(crate::specs::Decoding::full_message, crate::specs::Decoding::set_all))]
-fn put_full_message(alloc: Global, fields: &mut FieldMap, value: Option<Raw>) -> Result<(), Stop>
+#[tactic(auto, unfolding(crate::specs::Decoding::full_message, crate::specs::Parts::put_all))]
+fn put_full_message(
+    alloc: Global,
+    fields: &mut FieldMap,
+    value: Option<Raw>,
+) -> Result<(), DecodeFault>
     requires { IfSome value (λ v. IsFormed 63 (value_view v)) }
-    ensures { Sets result fields.new (set_all (full_message (option_map value_view value.entry)) fields.old) }
+    ensures { IsPut (put_all (full_message (option_map value_view value.entry)) fields.old) result fields.new }
 {
     if let Some(Raw::Text(raw)) = value {
         let text = Text::from_string(said(alloc, raw)?);
@@ -181,8 +182,8 @@ fn put_two(
     value: Value,
     next_name: &str,
     next_value: Value,
-) -> Result<(), Stop>
-    ensures { Sets result fields.new (set_all ((record { name = name.now; value = value }) ∷ (record { name = next_name.now; value = next_value }) ∷ []) fields.old) }
+) -> Result<(), DecodeFault>
+    ensures { IsPut (put_all ((record { name = name.now; value = value }) ∷ (record { name = next_name.now; value = next_value }) ∷ []) fields.old) result fields.new }
 {
     put(fields, name, value)?;
     put(fields, next_name, next_value)
@@ -195,8 +196,8 @@ fn put_values(
     source: Text,
     timestamp: Value,
     level: Value,
-) -> Result<(), Stop>
-    ensures { Sets result fields.new (set_all (text_field (codes "message") message ∷ text_field (codes "source") source ∷ (record { name = codes "timestamp"; value = timestamp }) ∷ (record { name = codes "level"; value = level }) ∷ []) fields.old) }
+) -> Result<(), DecodeFault>
+    ensures { IsPut (put_all (text_field (codes "message") message ∷ text_field (codes "source") source ∷ (record { name = codes "timestamp"; value = timestamp }) ∷ (record { name = codes "level"; value = level }) ∷ []) fields.old) result fields.new }
 {
     put_two(
         fields,
@@ -216,10 +217,10 @@ fn put_named(
     peer: &str,
     message: Text,
     members: &[Named],
-) -> Result<(), Stop>
+) -> Result<(), DecodeFault>
     requires formed { All (λ n. IsFormed 63 (value_view n.value)) members.now }
     requires moment { moment ≤ 253402300799999 }
-    ensures { Sets result fields.new (set_all (named_fields moment peer.now message (map named_view members.now)) fields.old) }
+    ensures { IsPut (put_all (named_fields moment peer.now message (map named_view members.now)) fields.old) result fields.new }
 {
     let host = members::value_named(members, "host");
     let source = source(alloc, peer, host)?;
@@ -243,8 +244,8 @@ fn is_named(name: &str) -> bool
         || name == "version"
 }
 
-fn is_taken(name: &str) -> bool
-    ensures { result ≡ is_taken name.now }
+fn is_reserved(name: &str) -> bool
+    ensures { result ≡ is_reserved name.now }
 {
     name == "id"
         || name == "message"
@@ -265,30 +266,27 @@ fn field_name(name: &str) -> &str
 }
 
 /// Sets a field, unless its name isn't lawful.
-#[tactic(auto, unfolding(crate::specs::Decoding::set_all))]
-fn put_if_lawful(fields: &mut FieldMap, name: &str, value: Value) -> Result<(), Stop>
-    ensures lawful { is_field_name name.now ≡ true → Sets result fields.new (set_all ((record { name = name.now; value = value }) ∷ []) fields.old) }
-    ensures other { is_field_name name.now ≡ false → Sets result fields.new (Ok fields.old) }
+#[tactic(auto, unfolding(crate::specs::Parts::put_all))]
+fn put_if_lawful(fields: &mut FieldMap, name: &str, value: Value) -> Result<(), DecodeFault>
+    ensures lawful { is_field_name name.now ≡ true → IsPut (put_all ((record { name = name.now; value = value }) ∷ []) fields.old) result fields.new }
+    ensures other { is_field_name name.now ≡ false → IsPut (Ok fields.old) result fields.new }
 {
     match fields.set(name, value) {
         Ok(()) => Ok(()),
         Err(FieldRefusal::BadFieldName) => Ok(()),
-        Err(FieldRefusal::OutOfMemory) => Err(Stop::OutOfMemory),
-        Err(FieldRefusal::TooLarge) => Err(Stop::Refused(Cause::TooLarge)),
-        Err(FieldRefusal::TooManyFields) => Err(Stop::Refused(Cause::TooManyFields)),
-        Err(FieldRefusal::Reserved) => Err(Stop::Refused(Cause::TooManyFields)),
+        Err(refusal) => Err(DecodeFault::from(refusal)),
     }
 }
 
 /// Sets the field of an additional member.
-#[tactic(auto, unfolding(crate::specs::Decoding::additional, crate::specs::Decoding::set_all))]
-fn put_additional(alloc: Global, fields: &mut FieldMap, member: &Named) -> Result<(), Stop>
+#[tactic(auto, unfolding(crate::specs::Decoding::additional, crate::specs::Parts::put_all))]
+fn put_additional(alloc: Global, fields: &mut FieldMap, member: &Named) -> Result<(), DecodeFault>
     requires { IsFormed 63 (value_view member.now.value) }
-    ensures { Sets result fields.new (set_all (additional (named_view member.now)) fields.old) }
+    ensures { IsPut (put_all (additional (named_view member.now)) fields.old) result fields.new }
 {
     let name = member.name.as_str();
     let short = field_name(name);
-    if is_named(name) || is_taken(short) {
+    if is_named(name) || is_reserved(short) {
         return Ok(());
     }
     match held(alloc, &member.value)? {
@@ -298,15 +296,15 @@ fn put_additional(alloc: Global, fields: &mut FieldMap, member: &Named) -> Resul
 }
 
 /// Sets the field of an additional member that counts.
-#[tactic(auto, unfolding(crate::specs::Decoding::set_all))]
+#[tactic(auto, unfolding(crate::specs::Parts::put_all))]
 fn put_counted(
     alloc: Global,
     fields: &mut FieldMap,
     member: &Named,
     counts: bool,
-) -> Result<(), Stop>
+) -> Result<(), DecodeFault>
     requires { IsFormed 63 (value_view member.now.value) }
-    ensures { Sets result fields.new (set_all (if counts then additional (named_view member.now) else []) fields.old) }
+    ensures { IsPut (put_all (if counts then additional (named_view member.now) else []) fields.old) result fields.new }
 {
     if !counts {
         return Ok(());
@@ -320,10 +318,10 @@ fn put_all_additional(
     fields: &mut FieldMap,
     members: &[Named],
     last: &[bool],
-) -> Result<(), Stop>
+) -> Result<(), DecodeFault>
     requires formed { All (λ n. IsFormed 63 (value_view n.value)) members.now }
     requires last { last.now ≡ are_last (map named_view members.now) }
-    ensures { Sets result fields.new (set_all (flat_map additional (counted (map named_view members.now))) fields.old) }
+    ensures { IsPut (put_all (flat_map additional (counted (map named_view members.now))) fields.old) result fields.new }
 {
     for i in 0..members.len() {
         put_counted(alloc, fields, &members[i], last[i])?;
@@ -333,14 +331,19 @@ fn put_all_additional(
 
 /// The fields of a message with these members.
 #[tactic(auto, unfolding(crate::specs::Decoding::fields_of))]
-fn fields_of(alloc: Global, moment: u64, peer: &str, members: &[Named]) -> Result<FieldMap, Stop>
+fn fields_of(
+    alloc: Global,
+    moment: u64,
+    peer: &str,
+    members: &[Named],
+) -> Result<FieldMap, DecodeFault>
     requires formed { All (λ n. IsFormed 63 (value_view n.value)) members.now }
     requires moment { moment ≤ 253402300799999 }
-    ensures { Makes result (fields_of moment peer.now (map named_view members.now)) }
+    ensures { IsDecoded (fields_of moment peer.now (map named_view members.now)) result }
 {
     let short = members::value_named(members, "short_message");
     let Some(message) = short_message(alloc, short)? else {
-        return Err(Stop::Refused(Cause::NoShortMessage));
+        return Err(DecodeFault::Undecodable(Cause::NoShortMessage));
     };
     let last = members::are_last(alloc, members)?;
     let mut fields = FieldMap::with_capacity(alloc, members.len().clamp(MIN_ROOM, MAX_ROOM))?;
@@ -363,10 +366,15 @@ fn is_compressed(bytes: &[u8]) -> bool
 }
 
 /// The fields of a message of these members.
-fn of_members(alloc: Global, moment: u64, peer: &str, members: &[Member]) -> Result<FieldMap, Stop>
+fn of_members(
+    alloc: Global,
+    moment: u64,
+    peer: &str,
+    members: &[Member],
+) -> Result<FieldMap, DecodeFault>
     requires formed { All (λ m. IsFormedPair 63 (pair_view m)) members.now }
     requires moment { moment ≤ 253402300799999 }
-    ensures { Makes result (fields_of moment peer.now (map with_said_name (map pair_view members.now))) }
+    ensures { IsDecoded (fields_of moment peer.now (map with_said_name (map pair_view members.now))) result }
 {
     let named = members::with_said_names(alloc, members)?;
     fields_of(alloc, moment, peer, named.as_slice())
@@ -409,8 +417,8 @@ pub fn decode_gelf(
     match read_object(alloc, bytes) {
         Ok(members) => match of_members(alloc, moment, peer, members.as_slice()) {
             Ok(fields) => Ok(Ok(fields)),
-            Err(Stop::Refused(cause)) => Ok(Err(cause)),
-            Err(Stop::OutOfMemory) => Err(AllocError),
+            Err(DecodeFault::Undecodable(cause)) => Ok(Err(cause)),
+            Err(DecodeFault::OutOfMemory) => Err(AllocError),
         },
         Err(refusal) => Ok(Err(refused(bytes, refusal)?)),
     }

@@ -4,16 +4,16 @@ ghost use Rattle.std.specs.List.{All, list_any};
 ghost use Rattle.std.specs.Str.{bytes_eq};
 ghost use Rattle.std.specs.String.{string_bytes};
 ghost use Rattle.std.specs.Cow.{cow_str_bytes};
+ghost use Rattle.gl_json.specs.Escapes.{said};
 ghost use Rattle.gl_json.specs.Flattening.{IsInside, IsFormed, IsFormedPair};
 ghost use Rattle.gl_json.specs.Views.{value_view, pair_view};
-ghost use Rattle.gl_gelf.specs.Members.{said, with_said_name, value_named, are_last};
-ghost use Rattle.gl_gelf.specs.Stops.{named_view};
+ghost use Rattle.gl_gelf.specs.Members.{with_said_name, value_named, are_last};
+ghost use Rattle.gl_gelf.specs.Parts.{named_view};
 
-use gl_json::{JsonRefusal, Member, Raw, unescape};
+use gl_json::{JsonRefusal, Member, Raw, as_written, unescape};
 use std::alloc::{AllocError, Global};
 use std::borrow::CowStr;
 use std::collections::BTreeMap;
-use std::str;
 
 // Up to so many members each name is compared with those behind it.
 const FEW_MEMBERS: usize = 32;
@@ -23,18 +23,6 @@ const FEW_MEMBERS: usize = 32;
 pub struct Named<'a> {
     pub name: CowStr<'a, Global>,
     pub value: Raw<'a>,
-}
-
-/// What a string says that has no escape: what is written.
-#[tactic(auto, using(crate::proofs::Saying::said_as_written))]
-fn as_written(raw: &[u8]) -> Option<&str>
-    requires { IsInside raw.now }
-    ensures { IfSome result (λ text. text.now ≡ said raw.now) }
-{
-    if raw.contains(&b'\\') {
-        return None;
-    }
-    str::from_utf8(raw).ok()
 }
 
 /// What a string says.

@@ -1,13 +1,14 @@
 // The moment that a number of seconds is.
 ghost use Rattle.std.specs.Prelude.{◌≡◌, ◌==◌, ◌≤◌, ◌<◌, ◌+◌, ◌-◌, ◌*◌, ◌^◌, ◌++◌, true, false, List, ℕ, length, take, min, IfSome};
-ghost use Rattle.gl_base.specs.Digits.{decimal};
 ghost use Rattle.std.specs.List.{list_all};
-ghost use Rattle.gl_json.specs.Reading.{behind_first};
-ghost use Rattle.gl_json.specs.Numbers.{is_digit, is_exp};
+ghost use Rattle.gl_base.specs.Bytes.{is_digit, behind_first};
+ghost use Rattle.gl_base.specs.Digits.{decimal, within};
+ghost use Rattle.gl_json.specs.Numbers.{is_exp};
 ghost use Rattle.gl_gelf.specs.Decimals.{significand, exponent, milliseconds, moment_of};
-ghost use Rattle.gl_gelf.specs.Digits.{within};
 
-use crate::number;
+use crate::number::number_of;
+use gl_base::bytes::{behind_first, next_is};
+use gl_base::whole::digits_within;
 
 /// The greatest moment, in milliseconds: the end of the year 9999.
 const MAX_MOMENT: u64 = 253_402_300_799_999;
@@ -105,7 +106,7 @@ fn milliseconds(int: &[u8], frac: &[u8], exp: &[u8]) -> Option<u64>
 {
     let places = int.len() as u128 + 3;
     let exponent = exponent(exp);
-    if number::next_is(number::behind_first(exp), b'-') {
+    if next_is(behind_first(exp), b'-') {
         return shifted(int, frac, places.saturating_sub(exponent));
     }
     shifted(int, frac, places + exponent)
@@ -119,8 +120,8 @@ fn shifted(int: &[u8], frac: &[u8], count: u128) -> Option<u64>
     ensures value { result ≡ within 253402300799999 (decimal 0 (take count (int.now ++ frac.now)) * 10 ^ (count - length (int.now ++ frac.now))) }
 {
     let behind = count.saturating_sub(int.len() as u128);
-    let whole = number::digits_within(0, front(int, count), MAX_MOMENT)?;
-    let all = number::digits_within(whole, front(frac, behind), MAX_MOMENT)?;
+    let whole = digits_within(0, front(int, count), MAX_MOMENT)?;
+    let all = digits_within(whole, front(frac, behind), MAX_MOMENT)?;
     padded(all, behind.saturating_sub(frac.len() as u128))
 }
 
@@ -131,7 +132,7 @@ pub fn moment_of(text: &[u8]) -> Option<u64>
     ensures value { result ≡ moment_of text.now }
     ensures few { IfSome result (λ n. n ≤ 253402300799999) }
 {
-    let number = number::number_of(text)?;
+    let number = number_of(text)?;
     if is_nothing(number.int, number.frac) {
         return Some(0);
     }

@@ -1,22 +1,27 @@
 -- What the grammar has is UTF-8, and the parts of an object have their own forms.
-use Rattle.std.proofs.Common.{◌≡◌, ℕ, zero, suc, ◌-◌, ◌<◌, ◌&&◌, ◌==◌, Bool, true, List, [], ◌∷◌, ◌++◌, map, refl, sym, subst, inl, inr, arith}
+use Rattle.std.proofs.Common.{◌≡◌, ℕ, zero, suc, ◌-◌, ◌<◌, ◌&&◌, ◌==◌, Bool, true, List, [], ◌∷◌, ◌++◌, map, Result, Ok, Err, refl, sym, subst, inl, inr, arith}
+use Rattle.std.specs.Prelude.{IfOk}
 use Rattle.std.specs.List.{list_all, All, AllByRecursion}
 use Rattle.std.specs.Str.{IsUtf8}
 use Rattle.std.proofs.lemmas.Bool.{and_parts}
 use Rattle.std.proofs.lemmas.List.Elements.{All-from_recursion}
 use Rattle.std.proofs.lemmas.Str.{IsUtf8-append, IsUtf8-nil}
+use Rattle.gl_base.specs.Bytes.{is_digit, is_sign, is_e}
 use Rattle.gl_json.specs.declared.chars.Char.{Char}
 use Rattle.gl_json.specs.declared.chars.Char.TheVariants.{One, Two, Three, Four, Escape, Unicode}
+use Rattle.gl_json.specs.declared.refusal.JsonRefusal.{JsonRefusal}
 use Rattle.gl_json.specs.declared.value.Member.{Member}
 use Rattle.gl_json.specs.Chars.{char_bytes, is_char, is_tail, is_second, is_escape, is_hex, AreChars, inside}
 use Rattle.std.specs.Int.{is_in_range}
-use Rattle.gl_json.specs.Numbers.{is_digit, are_digits, is_minus, is_int, is_frac, is_sign, are_signed_digits, is_e, is_exp, IsNumber}
-use Rattle.gl_json.specs.Grammar.{Value, Pair, is_blank, AreBlanks, AreParted, last, also, AreBetween, nothing, something, IsItem, item, IsMember, member, IsValueOf, a_text, a_number, a_true, a_false, a_null, an_object, an_array, IsObjectIn, IsArrayIn, IsValue, IsObject}
-use Rattle.gl_json.specs.Flattening.{IsFormed, IsFormedPair}
+use Rattle.gl_json.specs.Numbers.{are_digits, is_minus, is_int, is_frac, are_signed_digits, is_exp, IsNumber}
+use Rattle.gl_json.specs.Grammar.{Value, Pair, is_blank, AreBlanks, AreParted, last, also, AreBetween, nothing, something, IsItem, item, IsMember, member, IsValueOf, a_text, a_number, a_true, a_false, a_null, an_object, an_array, IsObjectIn, IsArrayIn, IsValue, IsObject, IsObjectText}
+use Rattle.gl_json.specs.Flattening.{IsInside, IsFormed, IsFormedPair}
+use Rattle.gl_json.specs.Places.{Answers, object_of}
 use Rattle.gl_json.specs.Views.{pair_view}
 use Rattle.gl_json.proofs.Taking.{split}
 use Rattle.gl_json.proofs.Encoding.{utf8_one, utf8_two, utf8_three, utf8_four}
 use Rattle.gl_json.proofs.SaidRead.{plain_low}
+use Rattle.gl_json.proofs.Whole.{object_found}
 
 -- bytes below 128
 
@@ -182,6 +187,18 @@ utf8_nested (suc n) =
 pub utf8_array : (n : ℕ) (t : List ℕ) → IsArrayIn n t → IsUtf8 t
 utf8_array n t is = (utf8_nested n).1 t is
 
+pub utf8_object : (n : ℕ) (t : List ℕ) → IsObjectIn n t → IsUtf8 t
+utf8_object n t is = (utf8_nested n).0 t is
+
+pub utf8_text : (whole : List ℕ) (ms : List Pair) → IsObjectText whole ms → IsUtf8 whole
+utf8_text whole ms is =
+    let p = utf8_nested 63 in
+    let object : IsUtf8 is.t = utf8_between 123 125 (IsMember (IsValue 63)) (omega arith) (omega arith) (utf8_member (IsValue 63) (utf8_value_of (IsObjectIn 63) (IsArrayIn 63) p.0 p.1)) is.t ms is.is in
+    subst IsUtf8 (sym is.parts) (IsUtf8-append is.before (is.t ++ is.behind) (utf8_blanks is.before is.before_is) (IsUtf8-append is.t is.behind object (utf8_blanks is.behind is.behind_is)))
+
+pub utf8_raw : (raw : List ℕ) → IsInside raw → IsUtf8 raw
+utf8_raw raw is = subst IsUtf8 (sym is.2) (utf8_inside is.0 is.1)
+
 -- the parts of an object
 
 value_formed : (n : ℕ) (t : List ℕ) (v : Value) → IsValue n t v → IsFormed n v
@@ -210,6 +227,11 @@ seen P (m ∷ ms) h = (h.0, seen P ms h.1)
 
 pub members_formed : (n : ℕ) (t : List ℕ) (ms : List Member) → IsObject n t (map pair_view ms) → All (λ m. IsFormedPair n (pair_view m)) ms
 members_formed n t ms is = All-from_recursion (λ m. IsFormedPair n (pair_view m)) ms (seen (IsFormedPair n) ms (object_formed n t (map pair_view ms) is))
+
+pub formed_by : {X : Type 0} (view : X → List Member) (text : List ℕ) (result : Result X JsonRefusal) → Answers (λ x. map pair_view (view x)) result (object_of text)
+    → IfOk result (λ x. All (λ m. IsFormedPair 63 (pair_view m)) (view x))
+formed_by view text (Ok x) h = let is = object_found text (map pair_view (view x)) h in members_formed 63 is.t (view x) is.is
+formed_by view text (Err e) h = tt
 
 pub object_some : (n : ℕ) (t : List ℕ) → IsObjectIn n t → 0 < n
 unfolding IsObjectIn

@@ -3,7 +3,8 @@ use Rattle.std.proofs.Common.{◌≡◌, ℕ, zero, suc, ◌+◌, ◌-◌, ◌<�
 use Rattle.std.specs.Prelude.{String, OnOk}
 use Rattle.std.specs.declared.alloc.Global.{Global}
 use Rattle.std.proofs.lemmas.List.{append-nil}
-use Rattle.gl_fields.specs.declared.field.Value.{Value as Field}
+use Rattle.gl_fields.specs.declared.value.Value.{Value as Field}
+use Rattle.gl_base.specs.Bytes.{behind_first}
 use Rattle.gl_json.specs.declared.bytes.Stop.{Stop}
 use Rattle.gl_json.specs.declared.refusal.Halt.{Halt}
 use Rattle.gl_json.specs.declared.refusal.Halt.TheVariants.{At, OutOfMemory}
@@ -12,7 +13,7 @@ use Rattle.gl_json.specs.declared.refusal.JsonRefusal.TheVariants as refusals
 use Rattle.gl_json.specs.declared.value.Member.{Member}
 use Rattle.gl_json.specs.Grammar.{Value, object, null, Pair, IsMember, IsValue, IsObject, IsObjectText}
 use Rattle.gl_json.specs.Flattening.{IsKept, AreFlatWith, ended, kept, skipped, nested, IsFlatIn, AreFlat, Grows, Appends, IsUnder, Flattens}
-use Rattle.gl_json.specs.Reading.{Read, behind_first, elements_at, member_at, value_at}
+use Rattle.gl_json.specs.Reading.{Read, elements_at, member_at, value_at}
 use Rattle.gl_json.specs.Places.{Answers, Halts, object_of}
 use Rattle.gl_json.specs.Views.{pair_view, field_view}
 use Rattle.gl_json.proofs.Taking.{ok_is}

@@ -8,3 +8,4 @@ pub mod Encoding
 pub mod SaidRead
 pub mod Formed
 pub mod Growing
+pub mod Saying

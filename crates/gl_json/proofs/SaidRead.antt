@@ -252,3 +252,9 @@ said_found view raw (Err e) h = tt
 
 pub said_only : {X : Type 0} (view : X → List ℕ) (raw : List ℕ) (result : Result X JsonRefusal) (cs : List Char) → AreChars cs → raw ≡ inside cs → Answers view result (text_of raw) → Answers view result (Ok (decoded cs))
 said_only view raw result cs are e h = subst (Answers view result) (text_only raw cs are e) h
+
+pub says_read : (raw said : List ℕ) → Says raw said → text_of raw ≡ Ok said
+says_read raw said s = text_only raw s.cs s.are s.written ∙ ap (λ (t : List ℕ). Ok t) (sym s.said)
+
+pub read_says : (raw said : List ℕ) → text_of raw ≡ Ok said → Says raw said
+read_says raw said e = said_found {X = List ℕ} (λ t. t) raw (Ok said) e

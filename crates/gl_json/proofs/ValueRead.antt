@@ -4,10 +4,11 @@ use Rattle.std.specs.Prelude.{codes}
 use Rattle.std.proofs.lemmas.Bool.{and_parts}
 use Rattle.std.specs.List.{list_all}
 use Rattle.std.proofs.lemmas.List.{append-nil}
+use Rattle.gl_base.specs.Bytes.{is_digit, behind_first}
 use Rattle.gl_json.specs.declared.bytes.Stop.{Stop}
 use Rattle.gl_json.specs.declared.bytes.Stop.TheVariants.{Deep}
 use Rattle.gl_json.specs.Chars.{inside}
-use Rattle.gl_json.specs.Numbers.{is_digit, IsNumber}
+use Rattle.gl_json.specs.Numbers.{IsNumber}
 use Rattle.gl_json.specs.Grammar.{Value, text, number, yes_, no_, null, object, array, Pair, is_blank, AreBlanks, AreBetween, IsItem, item, IsMember, member, IsValueOf, a_text, a_number, a_true, a_false, a_null, an_object, an_array, IsObjectIn, IsArrayIn, IsValue, IsObject, IsObjectText}
 use Rattle.gl_json.specs.Reading.{◌>>=◌, Read, Skip, trimmed, before, sign_at, word_at, string_at, number_at, elements_at, rest_of, part_of, valued, text_at, value_of, item_at, member_at, objects_at, arrays_at, value_at, ended, whole_at}
 use Rattle.gl_json.proofs.Taking.{bound, goes_on, ok_is, split, one_sound, one_complete, before_is, past_is, word_sound, word_complete}
@@ -302,6 +303,14 @@ nested_complete (suc n) =
 
 pub value_complete : (n : ℕ) → IsReadable (value_at n) (IsValue n)
 value_complete n = let p = nested_complete n in value_of_complete (IsObjectIn n) (IsArrayIn n) (objects_at n) (arrays_at n) p.0 p.1
+
+-- an object behind its opening brace
+
+pub nested_reads : (n : ℕ) (t : List ℕ) (ms : List Pair) → IsObject n t ms → elements_at (member_at (value_at n)) 125 (behind_first t) ≡ Ok (ms, [])
+nested_reads n t ms is =
+    let b = elements_complete (member_at (value_at n)) 123 125 (IsMember (IsValue n)) (member_complete (value_at n) (IsValue n) (value_complete n)) refl refl t [] ms is in
+    let behind : behind_first t ≡ b.inner ++ [] = ap behind_first b.text ∙ sym (append-nil b.inner) in
+    ap (elements_at (member_at (value_at n)) 125) behind ∙ b.reads
 
 -- whole texts
 

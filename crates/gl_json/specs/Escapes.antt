@@ -96,3 +96,11 @@ said_by waiting (Err stop) = Err stop
 -- what the inside of a string says, or the place at which the bytes stop to be one
 unfoldable pub text_of : List ℕ → Result (List ℕ) JsonRefusal
 text_of raw = refused raw (said_by None (chars_of (length raw) raw))
+
+-- what a string says; what isn't the inside of a string says nothing
+abbrev pub text_or_nothing : Result (List ℕ) JsonRefusal → List ℕ
+text_or_nothing (Ok text) = text
+text_or_nothing (Err refusal) = []
+
+abbrev pub said : List ℕ → List ℕ
+said raw = text_or_nothing (text_of raw)

@@ -1,29 +1,15 @@
 -- The fields that the members of an object give, those of nested objects under longer names (this project).
-use Rattle.std.specs.Prelude.{◌≡◌, ℕ, zero, suc, ◌+◌, ◌-◌, ◌*◌, ◌^◌, ◌&&◌, ◌==◌, Bool, true, false, nat_le, nat_lt, List, [], ◌∷◌, ◌++◌, Option, Some, None, Result, Ok, Err, ℤ, pos, neg_ℤ, if◌then◌else◌, codes, ⊤}
-use Rattle.gl_fields.specs.declared.field.Value.{Value as Field}
-use Rattle.gl_fields.specs.declared.field.Value.TheVariants.{Text, Whole}
+use Rattle.std.specs.Prelude.{◌≡◌, ℕ, zero, suc, List, [], ◌∷◌, ◌++◌, Option, Some, None, Result, Ok, Err, ℤ, codes, ⊤}
+use Rattle.gl_fields.specs.declared.value.Value.{Value as Field}
+use Rattle.gl_fields.specs.declared.value.Value.TheVariants.{Text, Whole}
 use Rattle.gl_json.specs.declared.refusal.JsonRefusal.{JsonRefusal}
 use Rattle.gl_json.specs.declared.refusal.JsonRefusal.TheVariants as refusals
 use Rattle.gl_json.specs.declared.chars.Char.{Char}
 use Rattle.gl_json.specs.Chars.{AreChars, inside}
-use Rattle.gl_json.specs.Numbers.{is_digit, IsNumber}
+use Rattle.gl_base.specs.Digits.{whole_of}
+use Rattle.gl_json.specs.Numbers.{IsNumber}
 use Rattle.gl_json.specs.Grammar.{Value, text, number, yes_, no_, null, object, array, Pair, IsObjectIn, IsArrayIn, IsObject}
 use Rattle.gl_json.specs.Escapes.{Says}
-
--- the number that these digits write, counted on from n; there is none above 2 ^ 63
-unfoldable pub magnitude_from : ℕ → List ℕ → Option ℕ
-magnitude_from n [] = Some n
-magnitude_from n (d ∷ ds) = if is_digit d && nat_le (n * 10 + (d - 48)) (2 ^ 63) then magnitude_from (n * 10 + (d - 48)) ds else None
-
-abbrev pub signed_number : (negative : Bool) → Option ℕ → Option ℤ
-signed_number negative None = None
-signed_number true (Some n) = Some (neg_ℤ (pos n))
-signed_number false (Some n) = if nat_lt n (2 ^ 63) then Some (pos n) else None
-
--- the whole number that a literal without fraction and exponent is, in 64 bits, one of them for the sign
-unfoldable pub whole_of : List ℕ → Option ℤ
-whole_of [] = None
-whole_of (b ∷ ds) = if b == 45 then signed_number true (magnitude_from 0 ds) else signed_number false (magnitude_from 0 (b ∷ ds))
 
 abbrev pub number_field : List ℕ → Option ℤ → Field
 number_field literal (Some z) = Whole z

@@ -1,10 +1,8 @@
 -- Numbers (RFC 8259, section 6): [ minus ] int [ frac ] [ exp ].
-use Rattle.std.specs.Prelude.{◌≡◌, ℕ, Bool, true, false, ◌&&◌, ◌||◌, List, [], ◌∷◌, ◌++◌, ◌==◌, if◌then◌else◌}
+use Rattle.std.specs.Prelude.{◌≡◌, ℕ, Bool, true, false, ◌&&◌, List, [], ◌∷◌, ◌++◌, ◌==◌, if◌then◌else◌}
 use Rattle.std.specs.List.{list_all}
 use Rattle.std.specs.Int.{is_in_range}
-
-abbrev pub is_digit : ℕ → Bool
-is_digit b = is_in_range 48 57 b
+use Rattle.gl_base.specs.Bytes.{is_digit, is_sign, is_e}
 
 -- one digit or more
 abbrev pub are_digits : List ℕ → Bool
@@ -26,15 +24,9 @@ abbrev pub is_frac : List ℕ → Bool
 is_frac [] = true
 is_frac (b ∷ ds) = (b == 46) && are_digits ds
 
-abbrev pub is_sign : ℕ → Bool
-is_sign b = (b == 43) || (b == 45)
-
 abbrev pub are_signed_digits : List ℕ → Bool
 are_signed_digits [] = false
 are_signed_digits (b ∷ ds) = if is_sign b then are_digits ds else are_digits (b ∷ ds)
-
-abbrev pub is_e : ℕ → Bool
-is_e b = (b == 101) || (b == 69)
 
 abbrev pub is_exp : List ℕ → Bool
 is_exp [] = true

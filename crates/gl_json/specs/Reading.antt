@@ -8,7 +8,7 @@ use Rattle.gl_json.specs.declared.bytes.Stop.TheVariants.{At, Deep}
 use Rattle.gl_json.specs.declared.chars.Char.{Char}
 use Rattle.gl_json.specs.declared.chars.Char.TheVariants.{One, Two, Three, Four, Escape, Unicode}
 use Rattle.gl_json.specs.Chars.{is_tail, is_second, is_plain, is_escape, is_hex}
-use Rattle.gl_json.specs.Numbers.{is_digit, is_sign, is_e}
+use Rattle.gl_base.specs.Bytes.{is_digit, is_sign, is_e, next_is, behind_first}
 use Rattle.gl_json.specs.Grammar.{Value, text, number, yes_, no_, null, object, array, Pair, is_blank}
 
 -- what is read, and the bytes behind it
@@ -166,14 +166,6 @@ parts_at one closing (suc n) bytes = do
   if more.0 then (do
     xs ← parts_at one closing n (trimmed more.1)
     Ok (x.0 ∷ xs.0, xs.1)) else Ok (x.0 ∷ [], more.1)
-
-abbrev pub next_is : ℕ → List ℕ → Bool
-next_is sign [] = false
-next_is sign (b ∷ bytes) = b == sign
-
-abbrev pub behind_first : List ℕ → List ℕ
-behind_first [] = []
-behind_first (b ∷ bytes) = bytes
 
 -- behind white space
 unfoldable pub between_at : {X : Type 0} → (List ℕ → Read X) → ℕ → List ℕ → Read (List X)

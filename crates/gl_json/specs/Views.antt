@@ -2,7 +2,7 @@
 use Rattle.std.specs.Prelude.{ℕ, List, String}
 use Rattle.std.specs.declared.alloc.Global.{Global}
 use Rattle.std.specs.String.{string_bytes}
-use Rattle.gl_fields.specs.declared.field.Value.{Value as Field}
+use Rattle.gl_fields.specs.declared.value.Value.{Value as Field}
 use Rattle.gl_json.specs.Grammar.{Value, text, number, yes_, no_, null, object, array, Pair}
 use Rattle.gl_json.specs.declared.value.Raw.{Raw}
 use Rattle.gl_json.specs.declared.value.Raw.TheVariants as raw

@@ -1,10 +1,12 @@
 // What stands at the front of a text.
 ghost use Rattle.std.specs.Prelude.{◌≡◌, ◌==◌, IsTrue, not};
 ghost use Rattle.std.specs.Int.{is_in_range};
+ghost use Rattle.gl_base.specs.Bytes.{is_digit};
 ghost use Rattle.gl_json.specs.Chars.{is_hex};
-ghost use Rattle.gl_json.specs.Numbers.{is_digit};
 ghost use Rattle.gl_json.specs.Grammar.{is_blank};
-ghost use Rattle.gl_json.specs.Reading.{Gives, past, trimmed, one_at, sign_at, word_at, before, next_is, behind_first};
+ghost use Rattle.gl_json.specs.Reading.{Gives, past, trimmed, one_at, sign_at, word_at, before};
+
+use gl_base::bytes::is_digit;
 
 /// Why a text isn't read.
 #[derive(Clone, Copy, Debug, PartialEq, Eq)]
@@ -20,12 +22,6 @@ fn is_blank(byte: u8) -> bool
     ensures { result ≡ is_blank byte }
 {
     byte == b' ' || byte == b'\t' || byte == b'\n' || byte == b'\r'
-}
-
-fn is_digit(byte: u8) -> bool
-    ensures { result ≡ is_digit byte }
-{
-    byte.is_ascii_digit()
 }
 
 fn is_hex(byte: u8) -> bool
@@ -62,24 +58,6 @@ pub fn past_digits(bytes: &[u8]) -> &[u8]
         rest = behind;
     }
     rest
-}
-
-pub fn next_is(bytes: &[u8], sign: u8) -> bool
-    ensures { result ≡ next_is sign bytes.now }
-{
-    match bytes {
-        [] => false,
-        [byte, ..] => *byte == sign,
-    }
-}
-
-pub fn behind_first(bytes: &[u8]) -> &[u8]
-    ensures { result.now ≡ behind_first bytes.now }
-{
-    match bytes {
-        [] => bytes,
-        [_, rest @ ..] => rest,
-    }
 }
 
 /// A byte in this range.

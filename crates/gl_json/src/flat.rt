@@ -1,86 +1,26 @@
 // The fields of an object and of those that nest in it.
-ghost use Rattle.std.specs.Prelude.{◌≡◌, ◌<◌, ◌≤◌, ◌^◌, ◌∷◌, [], List, Ok, map, IfOk, OnOk, IfSome, false, true};
+ghost use Rattle.std.specs.Prelude.{◌≡◌, ◌∷◌, [], List, Ok, map, IfOk, OnOk};
 ghost use Rattle.std.specs.List.{All};
 ghost use Rattle.std.specs.Str.{IsUtf8};
 ghost use Rattle.std.specs.String.{string_bytes};
-ghost use Rattle.gl_fields.specs.declared.field.Value.TheVariants as held;
-ghost use Rattle.gl_json.specs.Numbers.{is_digit};
+ghost use Rattle.gl_fields.specs.declared.value.Value.TheVariants as held;
+ghost use Rattle.gl_base.specs.Digits.{whole_of};
 ghost use Rattle.gl_json.specs.Grammar.{Pair, IsObjectIn, IsObject, IsObjectText, text, object};
 ghost use Rattle.gl_json.specs.Places.{object_of};
 ghost use Rattle.gl_json.specs.Escapes.{Says};
-ghost use Rattle.gl_json.specs.Flattening.{magnitude_from, signed_number, whole_of, number_field, IsInside, IsFormed, IsFormedPair, IsKept, IsUnder, Appends, Grows, AreFlat, Flattens};
+ghost use Rattle.gl_json.specs.Flattening.{number_field, IsInside, IsFormed, IsFormedPair, IsKept, IsUnder, Appends, Grows, AreFlat, Flattens};
 ghost use Rattle.gl_json.specs.Views.{value_view, pair_view, field_view};
 
-use crate::bytes;
 use crate::read::{LEVELS, members_at, read_object};
 use crate::refusal::{Halt, JsonRefusal};
 use crate::spelling::unescape;
 use crate::value::{Member, Raw};
 use gl_base::Text;
+use gl_base::bytes::behind_first;
+use gl_base::whole::whole_of;
 use gl_fields::Value;
 use std::alloc::{AllocError, Global};
 use std::str;
-
-// The greatest number of 64 bits with a sign, and one more.
-const MAX_MAGNITUDE: u128 = 0x8000_0000_0000_0000;
-
-fn is_digit(byte: u8) -> bool
-    ensures { result ≡ is_digit byte }
-{
-    byte.is_ascii_digit()
-}
-
-#[tactic(auto, unfolding(crate::specs::Flattening::magnitude_from))]
-fn magnitude(digits: &[u8]) -> Option<u64>
-    ensures value { result ≡ magnitude_from 0 digits.now }
-    ensures small { IfSome result (λ n. n ≤ 2 ^ 63) }
-{
-    let mut n = 0u64;
-    let mut rest = digits;
-    while let [d, behind @ ..] = rest {
-        if !is_digit(*d) {
-            return None;
-        }
-        let next = u128::from(n) * 10 + u128::from(*d - b'0');
-        if next > MAX_MAGNITUDE {
-            return None;
-        }
-        n = next as u64;
-        rest = behind;
-    }
-    Some(n)
-}
-
-fn signed_number(negative: bool, magnitude: Option<u64>) -> Option<i64>
-    requires { IfSome magnitude (λ n. n ≤ 2 ^ 63) }
-    ensures { result ≡ signed_number negative magnitude }
-{
-    let n = magnitude?;
-    if negative {
-        let number = -i128::from(n);
-        return Some(number as i64);
-    }
-    if n < 0x8000_0000_0000_0000 {
-        return Some(n as i64);
-    }
-    None
-}
-
-/// The whole number that a literal is.
-#[tactic(auto, unfolding(crate::specs::Flattening::whole_of))]
-pub fn whole_of(literal: &[u8]) -> Option<i64>
-    ensures { result ≡ whole_of literal.now }
-{
-    match literal {
-        [] => None,
-        [byte, digits @ ..] => {
-            if *byte == b'-' {
-                return signed_number(true, magnitude(digits));
-            }
-            signed_number(false, magnitude(literal))
-        }
-    }
-}
 
 // A text as it stands.
 fn plain_value(alloc: Global, bytes: &[u8]) -> Result<Value, AllocError>
@@ -153,7 +93,7 @@ fn nested_members(alloc: Global, text: &[u8], levels: u32) -> Result<Vec<Member<
     ensures object { IfOk result (λ v. IsObject levels text.now (map pair_view v.items)) }
     ensures formed { IfOk result (λ v. All (λ m. IsFormedPair levels (pair_view m)) v.items) }
 {
-    match members_at(alloc, bytes::behind_first(text), levels) {
+    match members_at(alloc, behind_first(text), levels) {
         Ok((members, _)) => Ok(members),
         Err(Halt::OutOfMemory) => Err(AllocError),
         Err(Halt::At(_)) => unreachable!(),

@@ -5,25 +5,27 @@
 //! memory. Of any other text it says the first byte that no case takes behind the bytes before it, or
 //! that a 65th level opens before it (`specs/Reading`, `specs/Places`). `unescape` gives what stands
 //! between the quotes of a string (`specs/Escapes`), and `flatten` the fields of an object and of those
-//! that nest in it (`specs/Flattening`). Time is linear in the text, but that `flatten` reads what
-//! nests once for each level.
+//! that nest in it (`specs/Flattening`). That what is read from left to right is what the grammar has are
+//! laws, which hold whatever the calls answer for want of memory (`law_objects_are_read`,
+//! `law_strings_say`). Not proved: time is linear in the text, but that `flatten` reads what nests once for
+//! each level.
 #![tactic(auto)]
 
 mod bytes;
 mod chars;
 mod flat;
-#[cfg(test)]
-mod hostile;
+mod laws;
 mod number;
 mod read;
 mod refusal;
 mod spelling;
-#[cfg(test)]
-mod tests;
 mod value;
 
 pub use flat::flatten;
+pub use laws::{
+    law_nested_objects_are_read, law_objects_are_read, law_parts_are_utf8, law_strings_say,
+};
 pub use read::read_object;
 pub use refusal::JsonRefusal;
-pub use spelling::unescape;
+pub use spelling::{as_written, unescape};
 pub use value::{Member, Raw};

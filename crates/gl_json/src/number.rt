@@ -1,21 +1,10 @@
 // Numbers, each part of which is read to its end.
 ghost use Rattle.std.specs.Prelude.{◌≡◌};
-ghost use Rattle.gl_json.specs.Numbers.{is_digit, is_sign, is_e};
+ghost use Rattle.gl_base.specs.Bytes.{is_digit, is_sign, is_e};
 ghost use Rattle.gl_json.specs.Reading.{Gives, digits_at, int_at, minus_at, frac_at, signed_at, exp_at, number_at};
 
 use crate::bytes::{self, Stop};
-
-fn is_sign(byte: u8) -> bool
-    ensures { result ≡ is_sign byte }
-{
-    byte == b'+' || byte == b'-'
-}
-
-fn is_e(byte: u8) -> bool
-    ensures { result ≡ is_e byte }
-{
-    byte == b'e' || byte == b'E'
-}
+use gl_base::bytes::{is_e, is_sign};
 
 /// One digit or more.
 #[tactic(auto, unfolding(crate::specs::Reading::digits_at))]

@@ -1,13 +1,16 @@
 // The members of an object.
 ghost use Rattle.std.specs.Prelude.{◌≡◌, ◌-◌, List, Ok, length, map, IfOk};
+ghost use Rattle.std.specs.List.{All};
 ghost use Rattle.gl_json.specs.Grammar.{Pair, IsObjectText};
 ghost use Rattle.gl_json.specs.Reading.{elements_at, member_at, value_at, whole_at, ended};
 ghost use Rattle.gl_json.specs.Places.{refusal_of, Answers, Halts, object_of};
+ghost use Rattle.gl_json.specs.Flattening.{IsFormedPair};
 ghost use Rattle.gl_json.specs.Views.{pair_view};
 
 use crate::bytes::{self, Stop};
 use crate::refusal::{Halt, JsonRefusal};
 use crate::value::{self, Member};
+use gl_base::bytes::{behind_first, next_is};
 use std::alloc::Global;
 
 // Room for as many members is taken at once, which is enough for most objects.
@@ -22,6 +25,8 @@ pub const LEVELS: u32 = 63;
 pub fn read_object(alloc: Global, text: &[u8]) -> Result<Vec<Member<'_>>, JsonRefusal>
     // What is read is an object with these members.
     ensures found { IfOk result (λ v. IsObjectText text.now (map pair_view v.items)) }
+    // What each member has is of the grammar too.
+    ensures formed { IfOk result (λ v. All (λ m. IsFormedPair 63 (pair_view m)) v.items) }
     // An object is read, with its members.
     ensures only { (ms : List Pair) → IsObjectText text.now ms → Answers (λ v. map pair_view v.items) result (Ok ms) }
     // Which refusal it is, and which place.
@@ -75,8 +80,8 @@ pub fn members_at(
     ensures { Halts (λ x. (map pair_view x.0.items, x.1.now)) result (elements_at (member_at (value_at levels)) 125 bytes.now) }
 {
     let mut rest = bytes::trimmed(bytes);
-    if bytes::next_is(rest, b'}') {
-        return Ok((Vec::new(alloc), bytes::behind_first(rest)));
+    if next_is(rest, b'}') {
+        return Ok((Vec::new(alloc), behind_first(rest)));
     }
     let mut members = Vec::with_capacity(alloc, USUAL_MEMBERS)?;
     loop {

@@ -1,9 +1,11 @@
 // What a string says.
-ghost use Rattle.std.specs.Prelude.{◌≡◌, ◌<◌, ◌^◌, ◌++◌, ◌∷◌, [], true, List, ℕ, Option, None, Some, Ok, length, map, IfOk, OnOk, IfSome};
+ghost use Rattle.std.specs.Prelude.{◌≡◌, ◌==◌, ◌<◌, ◌^◌, ◌++◌, ◌∷◌, [], true, List, ℕ, Option, None, Some, Ok, length, map, IfOk, OnOk, IfSome};
+ghost use Rattle.std.specs.List.{list_any};
 ghost use Rattle.std.specs.Str.{IsUtf8};
 ghost use Rattle.std.specs.String.{string_bytes};
 ghost use Rattle.gl_json.specs.Chars.{AreChars, inside, is_char};
 ghost use Rattle.gl_json.specs.Escapes.{meaning, hex_value, code_unit, is_high, is_low, replacement, lone, scalar_text, surrogate_pair, unit_alone, unit_text, char_text, waits, Says, said_by, chars_of, text_of, decoded};
+ghost use Rattle.gl_json.specs.Flattening.{IsInside};
 ghost use Rattle.gl_json.specs.declared.chars.Char.{Char};
 ghost use Rattle.gl_json.specs.Places.{Answers, Halts};
 
@@ -12,6 +14,7 @@ use crate::chars::{self, Char};
 use crate::read::refusal_of;
 use crate::refusal::{Halt, JsonRefusal};
 use std::alloc::{AllocError, Global};
+use std::str;
 
 // U+FFFD.
 const REPLACEMENT: [u8; 3] = [0xef, 0xbf, 0xbd];
@@ -27,6 +30,30 @@ pub fn unescape(alloc: Global, raw: &[u8]) -> Result<String, JsonRefusal>
     ensures place { Answers (λ s. string_bytes s) result (text_of raw.now) }
 {
     text_of(alloc, raw)
+}
+
+// A text as it stands.
+fn plain(bytes: &[u8]) -> &str
+    requires { IsUtf8 bytes.now }
+    ensures { result.now ≡ bytes.now }
+{
+    match str::from_utf8(bytes) {
+        Ok(text) => text,
+        Err(_) => unreachable!(),
+    }
+}
+
+/// What the bytes between the quotes of a string say, where they say it as it is written: in them no backslash stands.
+#[tactic(auto, using(crate::proofs::Saying::read_as_written))]
+pub fn as_written(raw: &[u8]) -> Option<&str>
+    requires { IsInside raw.now }
+    ensures written { IfSome result (λ text. text_of raw.now ≡ Ok text.now) }
+    ensures escaped { result ≡ None → list_any (λ b. b == 92) raw.now ≡ true }
+{
+    if raw.contains(&b'\\') {
+        return None;
+    }
+    Some(plain(raw))
 }
 
 #[tactic(auto, unfolding(crate::specs::Escapes::text_of))]

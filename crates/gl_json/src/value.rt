@@ -5,6 +5,7 @@ ghost use Rattle.gl_json.specs.Views.{value_view, pair_view};
 
 use crate::bytes::{self, Stop};
 use crate::{chars, number};
+use gl_base::bytes::{behind_first, next_is};
 
 /// A value as it stands in the text.
 #[derive(Clone, Copy, Debug)]
@@ -111,8 +112,8 @@ fn members_end(bytes: &[u8], levels: u32) -> Result<&[u8], Stop>
     ensures { Gives (λ x. x.now) result (rest_of (elements_at (member_at (value_at levels)) 125 bytes.now)) }
 {
     let mut rest = bytes::trimmed(bytes);
-    if bytes::next_is(rest, b'}') {
-        return Ok(bytes::behind_first(rest));
+    if next_is(rest, b'}') {
+        return Ok(behind_first(rest));
     }
     loop {
         let (_, behind) = member_at(rest, levels)?;
@@ -129,8 +130,8 @@ fn items_end(bytes: &[u8], levels: u32) -> Result<&[u8], Stop>
     ensures { Gives (λ x. x.now) result (rest_of (elements_at (item_at (value_at levels)) 93 bytes.now)) }
 {
     let mut rest = bytes::trimmed(bytes);
-    if bytes::next_is(rest, b']') {
-        return Ok(bytes::behind_first(rest));
+    if next_is(rest, b']') {
+        return Ok(behind_first(rest));
     }
     loop {
         let (_, behind) = item_at(rest, levels)?;

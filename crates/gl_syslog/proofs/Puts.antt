@@ -6,33 +6,34 @@ use Rattle.std.specs.Str.Lossy.{utf8_lossy}
 use Rattle.std.proofs.lemmas.List.Sums.{fold-append}
 use Rattle.gl_fields.specs.declared.field.Field.{Field}
 use Rattle.gl_fields.specs.declared.entry.Cause.{Cause}
-use Rattle.gl_syslog.specs.declared.fields.Undecoded.{Undecoded}
-use Rattle.gl_syslog.specs.declared.fields.Undecoded.TheVariants.{For, OutOfMemory}
-use Rattle.gl_syslog.specs.declared.parts.Element.{Element}
+use Rattle.gl_fields.specs.declared.fault.DecodeFault.{DecodeFault}
+use Rattle.gl_fields.specs.declared.fault.DecodeFault.TheVariants.{Undecodable, OutOfMemory}
+use Rattle.gl_text.specs.SyslogNames.{facility_name}
+use Rattle.gl_syslogtext.specs.declared.parts.Element.{Element}
 use Rattle.gl_syslog.specs.declared.content.Content.{Content}
-use Rattle.gl_fields.specs.Putting.{text_field, whole_field, then_put, map_with}
-use Rattle.gl_syslog.specs.Decoding.{field_if, facility_name, parameter_field, element_fields, content_of, fields_of, decoded_syslog}
-use Rattle.gl_syslog.specs.Putting.{◌>>=◌, Fails, put_in, put_common, put_in_order}
+use Rattle.gl_fields.specs.Putting.{text_field, whole_field, then_put, map_with, Fails}
+use Rattle.gl_syslog.specs.Decoding.{field_if, parameter_field, element_fields, content_of, fields_of, decoded_syslog}
+use Rattle.gl_syslog.specs.Putting.{◌>>=◌, put_in, put_common, put_in_order}
 
 pub stays : (cause : Cause) (fs : List Field) → fold then_put (Err cause) fs ≡ Err cause
 stays cause [] = refl
 stays cause (f ∷ fs) = stays cause fs
 
 -- what isn't put is the answer, whatever else was to be put
-fails_on : (e : Undecoded) (first : Result (List Field) Cause) (more : List Field) → Fails first e → Fails (fold then_put first more) e
-fails_on (For cause) first more h = ap (λ r. fold then_put r more) h ∙ stays cause more
+fails_on : (e : DecodeFault) (first : Result (List Field) Cause) (more : List Field) → Fails first e → Fails (fold then_put first more) e
+fails_on (Undecodable cause) first more h = ap (λ r. fold then_put r more) h ∙ stays cause more
 fails_on OutOfMemory first more h = tt
 
 front : {X : Type 0} (xs : List X) (i : ℕ) (x : X) → i < length xs → x ≡ get_or xs i x → drop i xs ≡ x ∷ drop (i + 1) xs
 front xs i x lt at = rw add-one (drop-cons xs i x lt) ∙ ap (λ y. y ∷ drop (i + 1) xs) (sym at)
 
-pub parameter_fails : (e : Undecoded) (whole : Result (List Field) Cause) (m : List Field) (id : List ℕ) (ps : List (List ℕ × List ℕ)) (i : ℕ) (p : List ℕ × List ℕ)
+pub parameter_fails : (e : DecodeFault) (whole : Result (List Field) Cause) (m : List Field) (id : List ℕ) (ps : List (List ℕ × List ℕ)) (i : ℕ) (p : List ℕ × List ℕ)
     → whole ≡ fold then_put (Ok m) (map (parameter_field id) (drop i ps)) → i < length ps → p ≡ get_or ps i p → Fails (then_put (Ok m) (parameter_field id p)) e → Fails whole e
 parameter_fails e whole m id ps i p is lt at h =
     let all : whole ≡ fold then_put (then_put (Ok m) (parameter_field id p)) (map (parameter_field id) (drop (i + 1) ps)) = is ∙ ap (λ l. fold then_put (Ok m) (map (parameter_field id) l)) (front ps i p lt at) in
     subst (λ r. Fails r e) (sym all) (fails_on e (then_put (Ok m) (parameter_field id p)) (map (parameter_field id) (drop (i + 1) ps)) h)
 
-pub element_fails : (e : Undecoded) (whole : Result (List Field) Cause) (m : List Field) (es : List Element) (i : ℕ) (x : Element)
+pub element_fails : (e : DecodeFault) (whole : Result (List Field) Cause) (m : List Field) (es : List Element) (i : ℕ) (x : Element)
     → whole ≡ fold then_put (Ok m) (flat_map element_fields (drop i es)) → i < length es → x ≡ get_or es i x → Fails (fold then_put (Ok m) (element_fields x)) e → Fails whole e
 element_fails e whole m es i x is lt at h =
     let more = flat_map element_fields (drop (i + 1) es) in

@@ -1,5 +1,5 @@
 -- The fields of a payload of syslog. Their names, and which of them are put, are this project's.
-use Rattle.std.specs.Prelude.{ℕ, ◌/◌, ◌%◌, pos, List, [], ◌∷◌, ◌++◌, map, Option, Some, None, Result, if◌then◌else◌, codes, slice_index_or}
+use Rattle.std.specs.Prelude.{ℕ, ◌/◌, ◌%◌, pos, List, [], ◌∷◌, ◌++◌, map, Option, Some, None, Result, if◌then◌else◌, codes}
 use Rattle.std.specs.List.{flat_map}
 use Rattle.std.specs.Option.{unwrap_or}
 use Rattle.std.specs.Str.Lossy.{utf8_lossy}
@@ -7,24 +7,15 @@ use Rattle.gl_fields.specs.declared.field.Field.{Field}
 use Rattle.gl_fields.specs.declared.entry.Cause.{Cause}
 use Rattle.gl_fields.specs.Fields.{is_name_byte}
 use Rattle.gl_fields.specs.Putting.{text_field, whole_field, map_with}
-use Rattle.gl_syslog.specs.declared.parts.Element.{Element}
-use Rattle.gl_syslog.specs.declared.parts.Parts.{Parts}
-use Rattle.gl_syslog.specs.declared.bsd.BsdParts.{BsdParts}
+use Rattle.gl_text.specs.SyslogNames.{facility_name}
+use Rattle.gl_syslogtext.specs.declared.parts.Element.{Element}
+use Rattle.gl_syslogtext.specs.declared.parts.Parts.{Parts}
+use Rattle.gl_syslogtext.specs.declared.bsd.BsdParts.{BsdParts}
 use Rattle.gl_syslog.specs.declared.content.Content.{Content}
-use Rattle.gl_syslog.specs.Sections.{pri_at}
-use Rattle.gl_syslog.specs.Reading.{parts_of}
-use Rattle.gl_syslog.specs.Rfc3164.{bsd_parts_of, tag_of, process_of}
+use Rattle.gl_syslogtext.specs.Sections.{pri_at}
+use Rattle.gl_syslogtext.specs.Reading.{parts_of}
+use Rattle.gl_syslogtext.specs.Rfc3164.{bsd_parts_of, tag_of, process_of}
 use Rattle.gl_syslog.specs.Moments.{time_of, bsd_time, kept_or}
-
--- facilities 0 to 23 (RFC 5424 section 6.2.1, table 1)
-abbrev pub facility_names : List (List ℕ)
-facility_names =
-    codes "kern" ∷ codes "user" ∷ codes "mail" ∷ codes "daemon" ∷ codes "auth" ∷ codes "syslog" ∷ codes "lpr" ∷ codes "news"
-    ∷ codes "uucp" ∷ codes "cron" ∷ codes "authpriv" ∷ codes "ftp" ∷ codes "ntp" ∷ codes "audit" ∷ codes "alert" ∷ codes "clock"
-    ∷ codes "local0" ∷ codes "local1" ∷ codes "local2" ∷ codes "local3" ∷ codes "local4" ∷ codes "local5" ∷ codes "local6" ∷ codes "local7" ∷ []
-
-abbrev pub facility_name : ℕ → List ℕ
-facility_name facility = slice_index_or facility_names facility []
 
 -- what a message says, by its form
 

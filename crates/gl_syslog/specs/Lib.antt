@@ -1,14 +1,3 @@
-pub mod LineFraming
-pub mod Reader
-pub mod Fronts
-pub mod Inside
-pub mod Sections
-pub mod Data
-pub mod Reading
-pub mod Rfc5424
-pub mod Printing
-pub mod Rfc3164
 pub mod Moments
 pub mod Decoding
 pub mod Putting
-pub mod LineFrames

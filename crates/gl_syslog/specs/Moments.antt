@@ -2,9 +2,9 @@
 use Rattle.std.specs.Prelude.{ℕ, zero, suc, ◌+◌, ◌-◌, ◌*◌, ◌/◌, ℤ, pos, ◌+ℤ◌, ◌-ℤ◌, ◌*ℤ◌, int_le, nat_lt, nat_le, ◌&&◌, List, ◌++◌, take, Option, Some, None, option_map, if◌then◌else◌, codes}
 use Rattle.jiff_core.specs.Calendar.{days_from_civil, days_in_year}
 use Rattle.gl_base.specs.Digits.{decimal}
-use Rattle.gl_syslog.specs.declared.parts.Stamp.{Stamp}
-use Rattle.gl_syslog.specs.declared.bsd.BsdStamp.{BsdStamp}
-use Rattle.gl_syslog.specs.Sections.{◌>>=◌, is_date}
+use Rattle.gl_syslogtext.specs.declared.parts.Stamp.{Stamp}
+use Rattle.gl_syslogtext.specs.declared.bsd.BsdStamp.{BsdStamp}
+use Rattle.gl_syslogtext.specs.Sections.{◌>>=◌, is_date}
 
 -- from the start of a day to a time on its clock
 abbrev pub clock_ms : ℕ → ℕ → ℕ → ℕ

@@ -1,39 +1,12 @@
--- How the work on a payload answers, by what its definition gives.
-use Rattle.std.specs.Prelude.{◌≡◌, ℕ, ◌/◌, ◌%◌, ℤ, pos, List, [], Result, Ok, Err, ⊤, codes}
+-- The fields of a payload put into a map step by step, as the code does. Between private functions alone.
+use Rattle.std.specs.Prelude.{ℕ, ◌/◌, ◌%◌, ℤ, pos, List, [], Result, Ok, Err, codes}
 use Rattle.std.specs.List.{fold, flat_map}
 use Rattle.gl_fields.specs.declared.field.Field.{Field}
-use Rattle.gl_fields.specs.declared.field.FieldRefusal.{FieldRefusal}
-use Rattle.gl_fields.specs.declared.field.FieldRefusal.TheVariants as refused
 use Rattle.gl_fields.specs.declared.entry.Cause.{Cause}
-use Rattle.gl_fields.specs.declared.entry.Cause.TheVariants.{TooManyFields, TooLarge}
 use Rattle.gl_syslog.specs.declared.content.Content.{Content}
-use Rattle.gl_syslog.specs.declared.fields.Undecoded.{Undecoded}
-use Rattle.gl_syslog.specs.declared.fields.Undecoded.TheVariants.{For, OutOfMemory}
 use Rattle.gl_fields.specs.Putting.{text_field, whole_field, then_put}
-use Rattle.gl_syslog.specs.Decoding.{field_if, facility_name, element_fields}
-
--- what a map's refusal gives
-abbrev pub undecoded_of : FieldRefusal → Undecoded
-undecoded_of refused.OutOfMemory = OutOfMemory
-undecoded_of refused.TooManyFields = For TooManyFields
-undecoded_of refused.BadFieldName = For TooLarge
-undecoded_of refused.TooLarge = For TooLarge
-undecoded_of refused.Reserved = For TooLarge
-
--- this answer is the cause that is defined, or memory was wanting
-abbrev pub Fails : Result (List Field) Cause → Undecoded → Type 0
-Fails defined (For cause) = defined ≡ Err cause
-Fails defined OutOfMemory = ⊤
-
--- the answer is the map or the cause that is defined, or memory was wanting
-abbrev pub IsDecoded : Result (List Field) Cause → Result (List Field) Undecoded → Type 0
-IsDecoded defined (Ok fields) = defined ≡ Ok fields
-IsDecoded defined (Err e) = Fails defined e
-
--- the same of a call that leaves these fields
-abbrev pub IsPut : {X : Type 0} → Result (List Field) Cause → Result X Undecoded → List Field → Type 0
-IsPut defined (Ok x) fields = defined ≡ Ok fields
-IsPut defined (Err e) fields = Fails defined e
+use Rattle.gl_text.specs.SyslogNames.{facility_name}
+use Rattle.gl_syslog.specs.Decoding.{field_if, element_fields}
 
 -- what is put next goes into the map before it
 infixl 10 ◌>>=◌

@@ -1,16 +1,16 @@
 // What a payload says, whichever form it has.
 ghost use Rattle.std.specs.Prelude.{◌≡◌, ◌≤◌, IfOk};
 ghost use Rattle.std.specs.Option.{unwrap_or};
-ghost use Rattle.gl_syslog.specs.Rfc3164.{tag_of, process_of};
+ghost use Rattle.gl_syslogtext.specs.Rfc3164.{tag_of, process_of};
 ghost use Rattle.gl_syslog.specs.Moments.{time_of};
 ghost use Rattle.gl_syslog.specs.Decoding.{content_5424, content_3164, content_plain, content_of};
 
-use crate::bsd::{BsdParts, process_at, read_3164, tag_at};
 use crate::moment::{bsd_time, kept_or, stamp_ms};
-use crate::sections::pri_at;
-use crate::unread::Unread;
-use crate::{Element, Parts, Stamp, read_5424};
 use gl_base::{Items, Text};
+use gl_syslogtext::sections::pri_at;
+use gl_syslogtext::{
+    BsdParts, Element, Parts, Stamp, Unread, process_at, read_3164, read_5424, tag_at,
+};
 use std::alloc::{AllocError, Global};
 
 /// The facility `user` and the severity notice, for a text that says none (RFC 3164 section 4.3.3).

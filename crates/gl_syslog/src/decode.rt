@@ -3,8 +3,8 @@ ghost use Rattle.std.specs.Prelude.{◌≡◌, ◌≤◌, IfOk};
 ghost use Rattle.gl_syslog.specs.Decoding.{decoded_syslog};
 
 use crate::content::content_of;
-use crate::fields::{Undecoded, map_of};
-use gl_fields::{Cause, FieldMap};
+use crate::fields::map_of;
+use gl_fields::{Cause, DecodeFault, FieldMap};
 use std::alloc::{AllocError, Global};
 
 /// The fields of a payload of syslog that came from this peer at this moment, in milliseconds since 1970.
@@ -24,7 +24,7 @@ pub fn decode_syslog(
     let content = content_of(alloc, moment, peer, text.as_str())?;
     match map_of(alloc, content) {
         Ok(fields) => Ok(Ok(fields)),
-        Err(Undecoded::For(cause)) => Ok(Err(cause)),
-        Err(Undecoded::OutOfMemory) => Err(AllocError),
+        Err(DecodeFault::Undecodable(cause)) => Ok(Err(cause)),
+        Err(DecodeFault::OutOfMemory) => Err(AllocError),
     }
 }

@@ -3,84 +3,22 @@ ghost use Rattle.std.specs.Prelude.{◌≡◌, ◌++◌, ◌<◌, map, Ok, IfOk,
 ghost use Rattle.std.specs.String.{string_bytes};
 ghost use Rattle.std.specs.List.{fold, flat_map};
 ghost use Rattle.gl_fields.specs.declared.field.Field.{Field};
-ghost use Rattle.gl_syslog.specs.declared.fields.Undecoded.TheVariants.{OutOfMemory};
-ghost use Rattle.gl_fields.specs.Putting.{text_field, whole_field, then_put};
-ghost use Rattle.gl_syslog.specs.Decoding.{facility_name, field_if, allowed, parameter_name, parameter_field, element_fields};
-ghost use Rattle.gl_syslog.specs.Putting.{IsPut, IsDecoded, put_in, put_common, put_in_order, undecoded_of};
+ghost use Rattle.gl_fields.specs.Putting.{text_field, whole_field, then_put, IsPut, IsDecoded};
+ghost use Rattle.gl_syslog.specs.Decoding.{field_if, allowed, parameter_name, parameter_field, element_fields};
+ghost use Rattle.gl_syslog.specs.Putting.{put_in, put_common, put_in_order};
 
-use crate::Element;
 use crate::content::Content;
 use gl_base::Text;
-use gl_fields::{Cause, FieldMap, FieldRefusal, Value};
+use gl_fields::{DecodeFault, FieldMap, Value};
+use gl_syslogtext::Element;
+use gl_text::facility_name;
 use std::alloc::{AllocError, Global};
 
 /// Fields without those of parameters.
 const ROOM: usize = 8;
 
-/// Why a payload gives no fields.
-#[derive(Clone, Copy, Debug, PartialEq, Eq)]
-pub enum Undecoded {
-    For(Cause),
-    OutOfMemory,
-}
-
-impl From<AllocError> for Undecoded {
-    ghost from_gives = { λ _ e. e ≡ OutOfMemory };
-
-    fn from(_: AllocError) -> Self {
-        Undecoded::OutOfMemory
-    }
-}
-
-impl From<FieldRefusal> for Undecoded {
-    ghost from_gives = { λ refusal e. e ≡ undecoded_of refusal };
-
-    fn from(refusal: FieldRefusal) -> Self {
-        match refusal {
-            FieldRefusal::OutOfMemory => Undecoded::OutOfMemory,
-            FieldRefusal::TooManyFields => Undecoded::For(Cause::TooManyFields),
-            FieldRefusal::BadFieldName | FieldRefusal::TooLarge | FieldRefusal::Reserved => {
-                Undecoded::For(Cause::TooLarge)
-            }
-        }
-    }
-}
-
-/// The name of a facility, 0 to 23 (RFC 5424 section 6.2.1, table 1); empty for another number.
-pub fn facility_name(facility: u8) -> &'static str
-    ensures { result.now ≡ facility_name facility }
-{
-    match facility {
-        0 => "kern",
-        1 => "user",
-        2 => "mail",
-        3 => "daemon",
-        4 => "auth",
-        5 => "syslog",
-        6 => "lpr",
-        7 => "news",
-        8 => "uucp",
-        9 => "cron",
-        10 => "authpriv",
-        11 => "ftp",
-        12 => "ntp",
-        13 => "audit",
-        14 => "alert",
-        15 => "clock",
-        16 => "local0",
-        17 => "local1",
-        18 => "local2",
-        19 => "local3",
-        20 => "local4",
-        21 => "local5",
-        22 => "local6",
-        23 => "local7",
-        _ => "",
-    }
-}
-
 #[tactic(auto, unfolding(crate::specs::Putting::put_in))]
-fn put_text(fields: &mut FieldMap, name: &str, text: Text) -> Result<(), Undecoded>
+fn put_text(fields: &mut FieldMap, name: &str, text: Text) -> Result<(), DecodeFault>
     ensures { IsPut (put_in fields.old (text_field name.now text)) result fields.new }
 {
     fields.set(name, Value::Text(text))?;
@@ -88,7 +26,7 @@ fn put_text(fields: &mut FieldMap, name: &str, text: Text) -> Result<(), Undecod
 }
 
 #[tactic(auto, unfolding(crate::specs::Putting::put_in))]
-fn put_if(fields: &mut FieldMap, name: &str, text: Option<Text>) -> Result<(), Undecoded>
+fn put_if(fields: &mut FieldMap, name: &str, text: Option<Text>) -> Result<(), DecodeFault>
     ensures { IsPut (fold then_put (Ok fields.old) (field_if name.now text)) result fields.new }
 {
     match text {
@@ -98,7 +36,7 @@ fn put_if(fields: &mut FieldMap, name: &str, text: Option<Text>) -> Result<(), U
 }
 
 #[tactic(auto, unfolding(crate::specs::Putting::put_in))]
-fn put_whole(fields: &mut FieldMap, name: &str, number: i64) -> Result<(), Undecoded>
+fn put_whole(fields: &mut FieldMap, name: &str, number: i64) -> Result<(), DecodeFault>
     ensures { IsPut (put_in fields.old (whole_field name.now number)) result fields.new }
 {
     fields.set(name, Value::Whole(number))?;
@@ -146,7 +84,7 @@ fn put_parameters(
     fields: &mut FieldMap,
     id: &str,
     params: &[(Text, Text)],
-) -> Result<(), Undecoded>
+) -> Result<(), DecodeFault>
     ensures { IsPut (fold then_put (Ok fields.old) (map (parameter_field id.now) params.now)) result fields.new }
 {
     for (name, value) in params {
@@ -156,7 +94,11 @@ fn put_parameters(
     Ok(())
 }
 
-fn put_elements(alloc: Global, fields: &mut FieldMap, elements: &[Element]) -> Result<(), Undecoded>
+fn put_elements(
+    alloc: Global,
+    fields: &mut FieldMap,
+    elements: &[Element],
+) -> Result<(), DecodeFault>
     ensures { IsPut (fold then_put (Ok fields.old) (flat_map element_fields elements.now)) result fields.new }
 {
     for element in elements {
@@ -179,7 +121,7 @@ fn put_common(
     source: Text,
     timestamp: i64,
     pri: u8,
-) -> Result<(), Undecoded>
+) -> Result<(), DecodeFault>
     ensures { IsPut (put_common fields.old message source timestamp pri) result fields.new }
 {
     let facility = Text::from_str(alloc, facility_name(pri / 8))?;
@@ -192,7 +134,7 @@ fn put_common(
 
 /// The map of the fields of what a payload says.
 #[tactic(auto, unfolding(crate::specs::Putting::put_in_order))]
-pub fn map_of(alloc: Global, content: Content) -> Result<FieldMap, Undecoded>
+pub fn map_of(alloc: Global, content: Content) -> Result<FieldMap, DecodeFault>
     ensures { IsDecoded (put_in_order content) result }
 {
     let mut fields = FieldMap::with_capacity(alloc, ROOM)?;

@@ -1,11 +1,10 @@
 // Times in milliseconds since 1970 began in UTC.
 ghost use Rattle.std.specs.Prelude.{◌≡◌, ◌≤◌, ◌&&◌, nat_le, pos, IfSome, Some, None, if◌then◌else◌};
 ghost use Rattle.jiff_core.specs.Calendar.{days_from_civil, IsEpochDay, IsWithin};
-ghost use Rattle.gl_syslog.specs.Sections.{is_date};
+ghost use Rattle.gl_syslogtext.specs.Sections.{is_date};
 ghost use Rattle.gl_syslog.specs.Moments.{clock_ms, civil_ms, fraction_ms, offset_ms, stamp_ms, kept_or, year_of, bsd_ms, bsd_time};
 
-use crate::Stamp;
-use crate::bsd::BsdStamp;
+use gl_syslogtext::{BsdStamp, Stamp};
 use jiff::civil::Date;
 
 const DAY_MS: i64 = 86_400_000;

@@ -5,11 +5,10 @@ use Rattle.std.specs.List.{All}
 use Rattle.gl_json.specs.declared.value.Member.{Member}
 use Rattle.gl_json.specs.Flattening.{IsFormedPair}
 use Rattle.gl_json.specs.Views.{pair_view}
-use Rattle.gl_json.proofs.Formed.{members_formed}
 
 pub of_members-requires-clause-formed : goal.of_members-requires-clause-formed
 of_members-requires-clause-formed c =
-    subst (All (λ m. IsFormedPair 63 (pair_view m))) (sym c.as_slice.ensures.value) (members_formed 63 c.in-Ok.ensures.found.t c.in-Ok.members.items c.in-Ok.ensures.found.is)
+    subst (All (λ m. IsFormedPair 63 (pair_view m))) (sym c.as_slice.ensures.value) c.in-Ok.ensures.formed
 
 pub refused-requires-clause-refused : goal.refused-requires-clause-refused
 refused-requires-clause-refused c = refusal_is (λ (v : Vec Member Global). map pair_view v.items) c.args.bytes.now c.in-Err.refusal c.in-Err.ensures.place

@@ -3,7 +3,7 @@ use Rattle.std.specs.List.{list_any}
 use Rattle.std.specs.Cow.{cow_str_bytes}
 use Rattle.std.specs.Str.{bytes_eq}
 use Rattle.gl_gelf.specs.Members.{are_last}
-use Rattle.gl_gelf.specs.Stops.{named_view}
+use Rattle.gl_gelf.specs.Parts.{named_view}
 use Rattle.gl_gelf.proofs.Naming.{last_also, last_ends}
 use Rattle.gl_gelf.proofs.members.few_are_last.Goals as goal
 

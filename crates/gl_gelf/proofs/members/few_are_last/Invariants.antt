@@ -1,6 +1,6 @@
 use Rattle.std.proofs.Common.{◌≡◌, ◌++◌, map, length}
 use Rattle.gl_gelf.specs.Members.{are_last}
-use Rattle.gl_gelf.specs.Stops.{named_view}
+use Rattle.gl_gelf.specs.Parts.{named_view}
 use Rattle.gl_gelf.proofs.members.few_are_last.Given as goal
 
 abbrev pub invariant-loop-rest : goal.invariant-loop-rest

@@ -9,7 +9,7 @@ use Rattle.std.proofs.lemmas.List.{drop_all, drop_more, reverse-append}
 use Rattle.std.proofs.lemmas.Map.Text.{btree_map_updates_str}
 use Rattle.gl_gelf.specs.declared.members.Named.{Named}
 use Rattle.gl_gelf.specs.Members.{has_name, are_last}
-use Rattle.gl_gelf.specs.Stops.{named_view}
+use Rattle.gl_gelf.specs.Parts.{named_view}
 use Rattle.gl_gelf.proofs.Naming.{any_map}
 use Rattle.gl_gelf.proofs.members.many_are_last.Goals as goal
 

@@ -6,7 +6,7 @@ use Rattle.std.specs.Ordering.{nat_cmp}
 use Rattle.std.specs.Cmp.Lexicographic.{slice_cmp}
 use Rattle.std.specs.BTreeMap.{get_by}
 use Rattle.gl_gelf.specs.Members.{are_last}
-use Rattle.gl_gelf.specs.Stops.{named_view}
+use Rattle.gl_gelf.specs.Parts.{named_view}
 use Rattle.gl_gelf.proofs.members.many_are_last.Given as goal
 
 abbrev pub invariant-loop-i : goal.invariant-loop-i

@@ -3,7 +3,7 @@ use Rattle.std.specs.List.{All}
 use Rattle.gl_json.specs.Flattening.{IsFormed}
 use Rattle.gl_json.specs.Views.{value_view}
 use Rattle.gl_gelf.specs.Members.{last_value, value_named}
-use Rattle.gl_gelf.specs.Stops.{named_view}
+use Rattle.gl_gelf.specs.Parts.{named_view}
 use Rattle.gl_gelf.proofs.members.value_named.Given as goal
 
 abbrev pub invariant-loop-rest : goal.invariant-loop-rest

@@ -3,7 +3,7 @@ use Rattle.std.specs.List.{All}
 use Rattle.gl_json.specs.Flattening.{IsFormed}
 use Rattle.gl_json.specs.Views.{value_view, pair_view}
 use Rattle.gl_gelf.specs.Members.{with_said_name}
-use Rattle.gl_gelf.specs.Stops.{named_view}
+use Rattle.gl_gelf.specs.Parts.{named_view}
 use Rattle.gl_gelf.proofs.members.with_said_names.Given as goal
 
 abbrev pub invariant-loop-member : goal.invariant-loop-member

@@ -1,5 +1,5 @@
 use Rattle.std.proofs.Common.{◌∙◌, arith}
-use Rattle.gl_json.specs.Numbers.{is_digit}
+use Rattle.gl_base.specs.Bytes.{is_digit}
 use Rattle.gl_gelf.proofs.Numbers.{capped_step, behind_all}
 use Rattle.gl_gelf.proofs.moment.capped.Goals as goal
 

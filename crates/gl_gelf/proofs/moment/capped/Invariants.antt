@@ -1,7 +1,7 @@
 use Rattle.std.proofs.Common.{◌≡◌, ◌≤◌, true, length, min}
 use Rattle.std.specs.List.{list_all}
+use Rattle.gl_base.specs.Bytes.{is_digit}
 use Rattle.gl_base.specs.Digits.{decimal}
-use Rattle.gl_json.specs.Numbers.{is_digit}
 use Rattle.gl_gelf.proofs.moment.capped.Given as goal
 
 abbrev pub invariant-loop-rest : goal.invariant-loop-rest

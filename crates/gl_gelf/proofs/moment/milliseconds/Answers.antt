@@ -1,5 +1,5 @@
 use Rattle.std.proofs.Common.{◌+◌, length, refl, sym, ap, ◌∙◌, arith}
-use Rattle.gl_json.specs.Reading.{next_is}
+use Rattle.gl_base.specs.Bytes.{next_is}
 use Rattle.gl_gelf.proofs.Moments.{with_lowered, with_raised}
 use Rattle.gl_gelf.proofs.moment.milliseconds.Goals as goal
 

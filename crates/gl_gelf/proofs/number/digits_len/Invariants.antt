@@ -1,6 +1,6 @@
 use Rattle.std.proofs.Common.{◌≡◌, ◌+◌, drop}
 use Rattle.std.specs.List.{prefix_len}
-use Rattle.gl_json.specs.Numbers.{is_digit}
+use Rattle.gl_base.specs.Bytes.{is_digit}
 use Rattle.gl_gelf.proofs.number.digits_len.Given as goal
 
 abbrev pub invariant-loop-i : goal.invariant-loop-i

@@ -1,5 +1,5 @@
 use Rattle.std.proofs.Common.{◌≡◌, length}
-use Rattle.gl_json.specs.Numbers.{is_digit}
+use Rattle.gl_base.specs.Bytes.{is_digit}
 use Rattle.gl_json.specs.Reading.{past}
 use Rattle.gl_json.proofs.bytes.past_digits.Given as goal
 

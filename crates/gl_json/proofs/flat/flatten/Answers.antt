@@ -4,7 +4,7 @@ use Rattle.std.specs.Prelude.{String}
 use Rattle.std.specs.declared.alloc.Global.{Global}
 use Rattle.std.specs.declared.vec.Vec.{Vec}
 use Rattle.std.specs.List.{All}
-use Rattle.gl_fields.specs.declared.field.Value.{Value as Field}
+use Rattle.gl_fields.specs.declared.value.Value.{Value as Field}
 use Rattle.gl_json.specs.declared.value.Member.{Member}
 use Rattle.gl_json.specs.Flattening.{IsFormedPair, AreFlat}
 use Rattle.gl_json.specs.Views.{pair_view, field_view}

@@ -1,9 +1,8 @@
 use Rattle.std.proofs.Common.{Ok}
 use Rattle.std.specs.List.{fold, flat_map}
 use Rattle.std.proofs.lemmas.Result.{err_from_is_err_and}
-use Rattle.gl_fields.specs.Putting.{then_put}
+use Rattle.gl_fields.specs.Putting.{then_put, Fails}
 use Rattle.gl_syslog.specs.Decoding.{element_fields}
-use Rattle.gl_syslog.specs.Putting.{Fails}
 use Rattle.gl_syslog.proofs.Puts.{element_fails}
 use Rattle.gl_syslog.proofs.fields.put_elements.Goals as goal
 

@@ -1,9 +1,9 @@
 use Rattle.std.proofs.Common.{◌≡◌, ap, ap₂, subst, ◌∙◌, Ok, map}
 use Rattle.std.specs.List.{fold}
 use Rattle.std.proofs.lemmas.Result.{err_from_is_err_and}
-use Rattle.gl_fields.specs.Putting.{text_field, then_put}
+use Rattle.gl_fields.specs.Putting.{text_field, then_put, Fails}
 use Rattle.gl_syslog.specs.Decoding.{parameter_name, parameter_field}
-use Rattle.gl_syslog.specs.Putting.{Fails, put_in}
+use Rattle.gl_syslog.specs.Putting.{put_in}
 use Rattle.gl_syslog.proofs.Puts.{parameter_fails}
 use Rattle.gl_syslog.proofs.fields.put_parameters.Goals as goal
 

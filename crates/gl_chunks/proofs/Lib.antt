@@ -1,0 +1,5 @@
+pub mod Messages
+pub mod Indexing
+pub mod Keeping
+pub mod Standing
+pub mod Answering

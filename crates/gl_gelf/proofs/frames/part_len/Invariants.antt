@@ -1,7 +1,0 @@
-use Rattle.std.proofs.Common.{◌≡◌, ◌+◌, drop}
-use Rattle.std.specs.List.{prefix_len}
-use Rattle.gl_gelf.specs.Taking.{is_not_zero}
-use Rattle.gl_gelf.proofs.frames.part_len.Given as goal
-
-abbrev pub invariant-loop-i : goal.invariant-loop-i
-invariant-loop-i l = prefix_len is_not_zero l.bytes ≡ l.i + prefix_len is_not_zero (drop l.i l.bytes)

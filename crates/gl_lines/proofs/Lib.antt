@@ -1,0 +1,9 @@
+pub mod Bools
+pub mod Counts
+pub mod Framings
+pub mod Stepping
+pub mod Unique
+pub mod FramesOfBytes
+pub mod Parts
+pub mod Feeding
+pub mod Beginning

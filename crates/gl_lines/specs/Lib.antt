@@ -1,0 +1,8 @@
+pub mod LineFraming
+pub mod LineFrames
+pub mod Reader
+pub mod Fronts
+pub mod Inside
+pub mod ZeroFraming
+pub mod ZeroReader
+pub mod ZeroFronts

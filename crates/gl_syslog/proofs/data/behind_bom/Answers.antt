@@ -1,5 +1,0 @@
-use Rattle.gl_syslog.proofs.Values.{bom_boundary}
-use Rattle.gl_syslog.proofs.data.behind_bom.Goals as goal
-
-pub split_at-requires : goal.split_at-requires
-split_at-requires c = bom_boundary c.args.msg.now c.utf8.msg c.requires

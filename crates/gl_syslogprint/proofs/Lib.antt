@@ -1,0 +1,4 @@
+pub mod Escapes
+pub mod Printed
+pub mod Stamps
+pub mod Printable

@@ -1,0 +1,10 @@
+pub mod Digits
+pub mod Values
+pub mod Many
+pub mod Distinct
+pub mod Peel
+pub mod Spelled
+pub mod Elements
+pub mod Messages
+pub mod Words
+pub mod BsdTexts
