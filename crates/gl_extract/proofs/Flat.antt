@@ -1,107 +1,88 @@
 -- The fields that `flatten` of gl_json gives of a text are those of its definition here.
-use Rattle.std.proofs.Common.{◌≡◌, ℕ, zero, suc, List, [], ◌∷◌, ◌++◌, length, map, None, Result, Ok, Err, refl, sym, ap, ◌∙◌}
-use Rattle.std.proofs.lemmas.List.{append-nil, map-append}
+use Rattle.std.proofs.Common.{◌≡◌, ℕ, zero, suc, List, [], ◌∷◌, ◌++◌, map, Result, Ok, Err, refl, sym, ap, ◌∙◌}
+use Rattle.std.proofs.lemmas.List.{map-append}
 use Rattle.std.specs.Prelude.{String}
 use Rattle.std.specs.declared.alloc.Global.{Global}
+use Rattle.gl_base.specs.Bytes.{behind_first}
 use Rattle.gl_fields.specs.declared.field.Field.{Field}
-use Rattle.gl_fields.specs.declared.field.Value.{Value as Held}
-use Rattle.gl_fields.specs.declared.field.Value.TheVariants.{Text}
-use Rattle.gl_json.specs.declared.bytes.Stop.{Stop}
-use Rattle.gl_json.specs.declared.bytes.Stop.TheVariants.{At, Deep}
-use Rattle.gl_json.specs.declared.chars.Char.{Char}
+use Rattle.gl_fields.specs.declared.value.Value.{Value as Held}
+use Rattle.gl_fields.specs.declared.value.Value.TheVariants.{Text}
 use Rattle.gl_json.specs.declared.refusal.JsonRefusal.{JsonRefusal}
 use Rattle.gl_json.specs.declared.refusal.JsonRefusal.TheVariants as refusals
-use Rattle.gl_json.specs.Chars.{AreChars, inside}
-use Rattle.gl_json.specs.Escapes.{Says, decoded, text_of, chars_of, said_by}
+use Rattle.gl_json.specs.Escapes.{Says, text_of, said, text_or_nothing}
 use Rattle.gl_json.specs.Flattening.{IsKept, kept_text, kept_number, kept_true, kept_false, kept_array, AreFlatWith, ended, kept, skipped, nested, IsFlatIn, AreFlat, Flattens}
-use Rattle.gl_json.specs.Grammar.{Value, Pair, IsMember, IsValue, IsObject, IsObjectText}
-use Rattle.gl_json.specs.Places.{refused, object_of}
-use Rattle.gl_json.specs.Reading.{behind_first, elements_at, member_at, value_at}
+use Rattle.gl_json.specs.Grammar.{Value, Pair, IsObject, IsObjectText}
+use Rattle.gl_json.specs.Places.{object_of}
+use Rattle.gl_json.specs.Reading.{elements_at, member_at, value_at}
 use Rattle.gl_json.specs.Views.{field_view}
-use Rattle.gl_json.proofs.ElementRead.{elements_complete}
-use Rattle.gl_json.proofs.SaidRead.{said_only}
-use Rattle.gl_json.proofs.ValueRead.{member_complete, value_complete}
-use Rattle.gl_json.proofs.Whole.{object_found, object_only}
-use Rattle.gl_extract.specs.Objects.{text_or_nothing, said, member_fields, members_fields, of_members, nested_fields, of_object, object_fields}
+use Rattle.gl_extract.specs.Objects.{member_fields, members_fields, of_members, nested_fields, of_object, object_fields}
 use Rattle.gl_extract.specs.Views.{field_of, field_of_pair}
 
--- what a string says
+-- What the laws of gl_json say of the reading of texts.
+pub record Reads : Type 0 where
+  pub read : (text : List ℕ) (ms : List Pair) → IsObjectText text ms → object_of text ≡ Ok ms
+  pub is : (text : List ℕ) (ms : List Pair) → object_of text ≡ Ok ms → IsObjectText text ms
+  pub inside : (levels : ℕ) (text : List ℕ) (ms : List Pair) → IsObject levels text ms → elements_at (member_at (value_at levels)) 125 (behind_first text) ≡ Ok (ms, [])
+  pub says : (raw text : List ℕ) → Says raw text → text_of raw ≡ Ok text
 
-no_memory : (raw : List ℕ) (r : Result (List ℕ) Stop) → refused raw r ≡ Err refusals.OutOfMemory → ⊥
-no_memory raw (Ok x) e = cc
-no_memory raw (Err (At left)) e = cc
-no_memory raw (Err Deep) e = cc
+module _ (laws : Reads) where
+  said_is : (raw name : List ℕ) → Says raw name → name ≡ said raw
+  said_is raw name s = sym (ap text_or_nothing (laws.says raw name s))
 
-said_in : (raw : List ℕ) (cs : List Char) → AreChars cs → raw ≡ inside cs → (r : Result (List ℕ) JsonRefusal) → text_of raw ≡ r → text_of raw ≡ Ok (decoded cs)
-unfolding text_of
-said_in raw cs are e (Ok text) read = read ∙ sym (said_only (λ (x : List ℕ). x) raw (Ok text) cs are e read)
-said_in raw cs are e (Err (refusals.NotJson at)) read = read ∙ sym (said_only {X = List ℕ} (λ (x : List ℕ). x) raw (Err (refusals.NotJson at)) cs are e read)
-said_in raw cs are e (Err refusals.TooDeep) read = read ∙ sym (said_only {X = List ℕ} (λ (x : List ℕ). x) raw (Err refusals.TooDeep) cs are e read)
-said_in raw cs are e (Err refusals.OutOfMemory) read = absurd (no_memory raw (said_by None (chars_of (length raw) raw)) read)
+  -- fields of members
 
-said_is : (raw name : List ℕ) → Says raw name → name ≡ said raw
-said_is raw name s = s.said ∙ sym (ap text_or_nothing (said_in raw s.cs s.are s.written (text_of raw) refl))
+  kept_is : (inner : List ℕ → List ℕ → List Field) (prefix name : List ℕ) (v : Value) (f : Held) → IsKept v f → member_fields inner prefix name v ≡ field_of (prefix ++ name, f) ∷ []
+  unfolding member_fields
+  kept_is inner prefix name v f (kept_text raw text says) = ap (λ (t : List ℕ). field_of (prefix ++ name, Text t) ∷ []) (sym (said_is raw text says))
+  kept_is inner prefix name v f (kept_number literal) = refl
+  kept_is inner prefix name v f kept_true = refl
+  kept_is inner prefix name v f kept_false = refl
+  kept_is inner prefix name v f (kept_array t) = refl
 
--- fields of members
+  flat_is : (inner : List ℕ → List ℕ → List Field) (Nested : List ℕ → List ℕ → List (List ℕ × Held) → Type 0) → ((p t : List ℕ) (gs : List (List ℕ × Held)) → Nested p t gs → map field_of gs ≡ inner p t)
+      → (prefix : List ℕ) (ms : List Pair) (fs : List (List ℕ × Held)) → AreFlatWith Nested prefix ms fs → map field_of fs ≡ members_fields inner prefix ms
+  unfolding member_fields members_fields
+  flat_is inner Nested are prefix ms fs ended = refl
+  flat_is inner Nested are prefix ms fs (kept raw name v f os hs says is more) =
+      ap (λ (l : List Field). field_of (prefix ++ name, f) ∷ l) (flat_is inner Nested are prefix os hs more)
+      ∙ ap (λ (l : List Field). l ++ members_fields inner prefix os) (sym (kept_is inner prefix name v f is))
+      ∙ ap (λ (n : List ℕ). member_fields inner prefix n v ++ members_fields inner prefix os) (said_is raw name says)
+  flat_is inner Nested are prefix ms fs (skipped raw os hs more) = flat_is inner Nested are prefix os hs more
+  flat_is inner Nested are prefix ms fs (nested raw name t os gs hs says is more) =
+      map-append field_of gs hs
+      ∙ ap (λ (l : List Field). l ++ map field_of hs) (are (prefix ++ (name ++ 95 ∷ [])) t gs is)
+      ∙ ap (λ (l : List Field). inner (prefix ++ (name ++ 95 ∷ [])) t ++ l) (flat_is inner Nested are prefix os hs more)
+      ∙ ap (λ (n : List ℕ). inner (prefix ++ (n ++ 95 ∷ [])) t ++ members_fields inner prefix os) (said_is raw name says)
 
-kept_is : (inner : List ℕ → List ℕ → List Field) (prefix name : List ℕ) (v : Value) (f : Held) → IsKept v f → member_fields inner prefix name v ≡ field_of (prefix ++ name, f) ∷ []
-unfolding member_fields
-kept_is inner prefix name v f (kept_text raw text says) = ap (λ (t : List ℕ). field_of (prefix ++ name, Text t) ∷ []) (sym (said_is raw text says))
-kept_is inner prefix name v f (kept_number literal) = refl
-kept_is inner prefix name v f kept_true = refl
-kept_is inner prefix name v f kept_false = refl
-kept_is inner prefix name v f (kept_array t) = refl
+  nested_is : (n : ℕ) (prefix t : List ℕ) (gs : List (List ℕ × Held)) → IsFlatIn n prefix t gs → map field_of gs ≡ nested_fields n prefix t
+  unfolding IsFlatIn nested_fields
+  nested_is zero prefix t gs is = absurd is
+  nested_is (suc n) prefix t gs is =
+      flat_is (nested_fields n) (IsFlatIn n) (nested_is n) prefix is.0 gs is.2
+      ∙ sym (ap (of_members (nested_fields n) prefix) (laws.inside n t is.0 is.1))
 
-flat_is : (inner : List ℕ → List ℕ → List Field) (Nested : List ℕ → List ℕ → List (List ℕ × Held) → Type 0) → ((p t : List ℕ) (gs : List (List ℕ × Held)) → Nested p t gs → map field_of gs ≡ inner p t)
-    → (prefix : List ℕ) (ms : List Pair) (fs : List (List ℕ × Held)) → AreFlatWith Nested prefix ms fs → map field_of fs ≡ members_fields inner prefix ms
-unfolding member_fields members_fields
-flat_is inner Nested are prefix ms fs ended = refl
-flat_is inner Nested are prefix ms fs (kept raw name v f os hs says is more) =
-    ap (λ (l : List Field). field_of (prefix ++ name, f) ∷ l) (flat_is inner Nested are prefix os hs more)
-    ∙ ap (λ (l : List Field). l ++ members_fields inner prefix os) (sym (kept_is inner prefix name v f is))
-    ∙ ap (λ (n : List ℕ). member_fields inner prefix n v ++ members_fields inner prefix os) (said_is raw name says)
-flat_is inner Nested are prefix ms fs (skipped raw os hs more) = flat_is inner Nested are prefix os hs more
-flat_is inner Nested are prefix ms fs (nested raw name t os gs hs says is more) =
-    map-append field_of gs hs
-    ∙ ap (λ (l : List Field). l ++ map field_of hs) (are (prefix ++ (name ++ 95 ∷ [])) t gs is)
-    ∙ ap (λ (l : List Field). inner (prefix ++ (name ++ 95 ∷ [])) t ++ l) (flat_is inner Nested are prefix os hs more)
-    ∙ ap (λ (n : List ℕ). inner (prefix ++ (n ++ 95 ∷ [])) t ++ members_fields inner prefix os) (said_is raw name says)
+  -- whole texts
 
-nested_reads : (n : ℕ) (text : List ℕ) (ms : List Pair) → IsObject n text ms → elements_at (member_at (value_at n)) 125 (behind_first text) ≡ Ok (ms, [])
-nested_reads n text ms is =
-    let b = elements_complete (member_at (value_at n)) 123 125 (IsMember (IsValue n)) (member_complete (value_at n) (IsValue n) (value_complete n)) refl refl text [] ms is in
-    let behind : behind_first text ≡ b.inner ++ [] = ap behind_first b.text ∙ sym (append-nil b.inner) in
-    ap (elements_at (member_at (value_at n)) 125) behind ∙ b.reads
+  views_are : (ps : List (String Global × Held)) → map field_of_pair ps ≡ map field_of (map field_view ps)
+  views_are [] = refl
+  views_are (p ∷ ps) = ap (λ (l : List Field). field_of_pair p ∷ l) (views_are ps)
 
-nested_is : (n : ℕ) (prefix t : List ℕ) (gs : List (List ℕ × Held)) → IsFlatIn n prefix t gs → map field_of gs ≡ nested_fields n prefix t
-unfolding IsFlatIn nested_fields
-nested_is zero prefix t gs is = absurd is
-nested_is (suc n) prefix t gs is =
-    flat_is (nested_fields n) (IsFlatIn n) (nested_is n) prefix is.0 gs is.2
-    ∙ sym (ap (of_members (nested_fields n) prefix) (nested_reads n t is.0 is.1))
+  pub object_law : (text : List ℕ) (ms : List Pair) (fs : List (List ℕ × Held)) → IsObjectText text ms → AreFlat 63 [] ms fs → object_fields text ≡ map field_of fs
+  unfolding object_fields
+  object_law text ms fs is flat = ap of_object (laws.read text ms is) ∙ sym (flat_is (nested_fields 63) (IsFlatIn 63) (nested_is 63) [] ms fs flat)
 
--- whole texts
+  none_by : (text : List ℕ) → ((ms : List Pair) → IsObjectText text ms → ⊥) → (r : Result (List Pair) JsonRefusal) → object_of text ≡ r → of_object r ≡ []
+  none_by text none (Ok ms) e = absurd (none ms (laws.is text ms e))
+  none_by text none (Err refusal) e = refl
 
-views_are : (ps : List (String Global × Held)) → map field_of_pair ps ≡ map field_of (map field_view ps)
-views_are [] = refl
-views_are (p ∷ ps) = ap (λ (l : List Field). field_of_pair p ∷ l) (views_are ps)
+  pub none_law : (text : List ℕ) → ((ms : List Pair) → IsObjectText text ms → ⊥) → object_fields text ≡ []
+  unfolding object_fields
+  none_law text none = none_by text none (object_of text) refl
 
-pub object_law : (text : List ℕ) (ms : List Pair) (fs : List (List ℕ × Held)) → IsObjectText text ms → AreFlat 63 [] ms fs → object_fields text ≡ map field_of fs
-unfolding object_fields
-object_law text ms fs is flat = ap of_object (object_only text ms is) ∙ sym (flat_is (nested_fields 63) (IsFlatIn 63) (nested_is 63) [] ms fs flat)
-
-none_by : (text : List ℕ) → ((ms : List Pair) → IsObjectText text ms → ⊥) → (r : Result (List Pair) JsonRefusal) → object_of text ≡ r → of_object r ≡ []
-none_by text none (Ok ms) e = absurd (none ms (object_found text ms e))
-none_by text none (Err refusal) e = refl
-
-pub none_law : (text : List ℕ) → ((ms : List Pair) → IsObjectText text ms → ⊥) → object_fields text ≡ []
-unfolding object_fields
-none_law text none = none_by text none (object_of text) refl
-
-pub object_is : (text : List ℕ) (ms : List Pair) (ps : List (String Global × Held)) → IsObjectText text ms → AreFlat 63 [] ms (map field_view ps) → map field_of_pair ps ≡ object_fields text
-unfolding object_fields
-object_is text ms ps is flat =
-    views_are ps ∙ flat_is (nested_fields 63) (IsFlatIn 63) (nested_is 63) [] ms (map field_view ps) flat ∙ sym (ap of_object (object_only text ms is))
+  pub object_is : (text : List ℕ) (ms : List Pair) (ps : List (String Global × Held)) → IsObjectText text ms → AreFlat 63 [] ms (map field_view ps) → map field_of_pair ps ≡ object_fields text
+  unfolding object_fields
+  object_is text ms ps is flat =
+      views_are ps ∙ flat_is (nested_fields 63) (IsFlatIn 63) (nested_is 63) [] ms (map field_view ps) flat ∙ sym (ap of_object (laws.read text ms is))
 
 no_object : (text : List ℕ) (e : JsonRefusal) → object_of text ≡ Err e → [] ≡ object_fields text
 unfolding object_fields

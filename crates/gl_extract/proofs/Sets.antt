@@ -5,8 +5,8 @@ use Rattle.std.specs.Prelude.{String, OnErr}
 use Rattle.std.specs.String.{string_bytes}
 use Rattle.std.specs.declared.alloc.Global.{Global}
 use Rattle.gl_fields.specs.declared.field.Field.{Field}
-use Rattle.gl_fields.specs.declared.field.Value.{Value}
-use Rattle.gl_outside.specs.Patterns.{named_in}
+use Rattle.gl_fields.specs.declared.value.Value.{Value}
+use Rattle.gl_patterns.specs.Patterns.{named_in}
 use Rattle.gl_extract.specs.declared.built.Built.{Built}
 use Rattle.gl_extract.specs.declared.parts.ExtractorParts.{ExtractorParts}
 use Rattle.gl_extract.specs.Extraction.{set_or_left, set_all, group_name, group_field, group_fields, source_text, given, given_of, HaveBegun, AreBegun, IsBegun}

@@ -1,11 +1,11 @@
 -- What converters make of a value (this project).
-use Rattle.std.specs.Prelude.{ℕ, ◌/◌, ◌%◌, nat_lt, List, map, ℤ, pos, negsuc, Option, Some, None, if◌then◌else◌}
+use Rattle.std.specs.Prelude.{ℕ, ◌/◌, ◌%◌, nat_lt, List, ℤ, pos, negsuc, Option, Some, None, if◌then◌else◌}
 use Rattle.std.specs.List.{fold}
-use Rattle.std.specs.Char.{to_ascii_lowercase, to_ascii_uppercase}
-use Rattle.gl_fields.specs.declared.field.Value.{Value}
-use Rattle.gl_fields.specs.declared.field.Value.TheVariants.{Text, Whole}
-use Rattle.gl_syslog.specs.Decoding.{facility_name}
+use Rattle.gl_fields.specs.declared.value.Value.{Value}
+use Rattle.gl_fields.specs.declared.value.Value.TheVariants.{Text, Whole}
+use Rattle.gl_text.specs.Changing.{lowercase, uppercase}
 use Rattle.gl_text.specs.Numbers.{whole_number}
+use Rattle.gl_text.specs.SyslogNames.{facility_name}
 use Rattle.gl_extract.specs.declared.parts.Converter.{Converter}
 use Rattle.gl_extract.specs.declared.parts.Converter.TheVariants.{Numeric, Lowercase, Uppercase, SyslogLevel, SyslogFacility}
 
@@ -19,10 +19,10 @@ abbrev pub whole_or : Value → Option ℤ → Value
 whole_or value None = value
 whole_or value (Some number) = Whole number
 
--- the bytes of a text, each changed so
-abbrev pub each_byte : (ℕ → ℕ) → Value → Value
-each_byte change (Text text) = Text (map change text)
-each_byte change (Whole number) = Whole number
+-- a text, changed so
+abbrev pub changed : (List ℕ → List ℕ) → Value → Value
+changed change (Text text) = Text (change text)
+changed change (Whole number) = Whole number
 
 -- a syslog priority (RFC 5424, section 6.2.1): 0 to 191
 abbrev pub priority : Option ℤ → Option ℕ
@@ -43,8 +43,8 @@ given_or give value (Some n) = give n
 
 unfoldable pub converted : Converter → Value → Value
 converted Numeric value = whole_or value (number_of value)
-converted Lowercase value = each_byte to_ascii_lowercase value
-converted Uppercase value = each_byte to_ascii_uppercase value
+converted Lowercase value = changed lowercase value
+converted Uppercase value = changed uppercase value
 converted SyslogLevel value = given_or severity value (priority (number_of value))
 converted SyslogFacility value = given_or facility value (priority (number_of value))
 

@@ -1,13 +1,13 @@
 -- What an extractor makes of the fields of a message (this project).
-use Rattle.std.specs.Prelude.{◌≡◌, ℕ, ◌+◌, Bool, true, List, [], ◌∷◌, ◌++◌, take, drop, slice_range, Option, Some, None, IsSome, option_map, if◌then◌else◌}
+use Rattle.std.specs.Prelude.{◌≡◌, ℕ, ◌+◌, Bool, true, List, [], ◌∷◌, ◌++◌, take, drop, slice_range, Option, Some, None, option_map, if◌then◌else◌}
 use Rattle.std.specs.List.{fold}
 use Rattle.std.specs.Fmt.{decimal}
 use Rattle.gl_fields.specs.declared.field.Field.{Field}
 use Rattle.gl_fields.specs.declared.field.FieldRefusal.{FieldRefusal}
-use Rattle.gl_fields.specs.declared.field.Value.TheVariants.{Text}
+use Rattle.gl_fields.specs.declared.value.Value.TheVariants.{Text}
 use Rattle.gl_fields.specs.Fields.{value_of, value_text, with_field, refusal_of}
 use Rattle.gl_fields.specs.Putting.{text_field}
-use Rattle.gl_outside.specs.Patterns.{is_found, group_in, named_in}
+use Rattle.gl_patterns.specs.Patterns.{is_found, group_in, named_in}
 use Rattle.gl_text.specs.Texts.{contains, piece, characters}
 use Rattle.gl_extract.specs.declared.built.Built.{Built}
 use Rattle.gl_extract.specs.declared.parts.Condition.{Condition}
@@ -18,25 +18,25 @@ use Rattle.gl_extract.specs.declared.parts.ExtractorParts.{ExtractorParts}
 use Rattle.gl_extract.specs.Converting.{converted_by}
 use Rattle.gl_extract.specs.Objects.{object_fields}
 
--- Built patterns are those of the extractor.
+-- The patterns that are built for an extractor. What a grok pattern becomes is said by `expanded`.
 
-abbrev pub IsOfKind : ExtractorKind → Option (List ℕ) → Type 0
-IsOfKind (Regex pattern target) built = built ≡ Some pattern
-IsOfKind (Substring begin end target) built = built ≡ None
-IsOfKind (Split by index target) built = built ≡ None
-IsOfKind (Grok pattern) built = IsSome built
-IsOfKind Json built = built ≡ None
+abbrev pub pattern_of : (List ℕ → List ℕ) → ExtractorKind → Option (List ℕ)
+pattern_of expanded (Regex pattern target) = Some pattern
+pattern_of expanded (Substring begin end target) = None
+pattern_of expanded (Split by index target) = None
+pattern_of expanded (Grok pattern) = Some (expanded pattern)
+pattern_of expanded Json = None
 
-abbrev pub IsOfCondition : Condition → Option (List ℕ) → Type 0
-IsOfCondition conditions.None built = built ≡ None
-IsOfCondition (conditions.Contains part) built = built ≡ None
-IsOfCondition (conditions.Regex pattern) built = built ≡ Some pattern
+abbrev pub condition_of : Condition → Option (List ℕ)
+condition_of conditions.None = None
+condition_of (conditions.Contains part) = None
+condition_of (conditions.Regex pattern) = Some pattern
 
--- The pattern of a Regex and that of the condition are the extractor's. That of a Grok is any text, into which its
--- names were expanded.
+-- The pattern is the extractor's, and so is that of the condition. A grok pattern may become any text.
 pub record Fits (parts : ExtractorParts) (built : Built) : Type 0 where
-  pub pattern : IsOfKind parts.kind built.pattern
-  pub condition : IsOfCondition parts.condition built.condition
+  pub expanded : List ℕ → List ℕ
+  pub pattern : built.pattern ≡ pattern_of expanded parts.kind
+  pub condition : built.condition ≡ condition_of parts.condition
 
 -- Fields that are set, one after the other.
 

@@ -1,24 +1,18 @@
 -- The fields of a JSON object and of those that nest in it, as a function of its text: those that `flatten` of gl_json
 -- gives.
 use Rattle.std.specs.Prelude.{ℕ, zero, suc, List, [], ◌∷◌, ◌++◌, Result, Ok, Err, codes}
+use Rattle.gl_base.specs.Bytes.{behind_first}
+use Rattle.gl_base.specs.Digits.{whole_of}
 use Rattle.gl_fields.specs.declared.field.Field.{Field}
-use Rattle.gl_fields.specs.declared.field.Value.{Value as Held}
-use Rattle.gl_fields.specs.declared.field.Value.TheVariants.{Text}
+use Rattle.gl_fields.specs.declared.value.Value.{Value as Held}
+use Rattle.gl_fields.specs.declared.value.Value.TheVariants.{Text}
 use Rattle.gl_json.specs.declared.bytes.Stop.{Stop}
 use Rattle.gl_json.specs.declared.refusal.JsonRefusal.{JsonRefusal}
 use Rattle.gl_json.specs.Grammar.{Value, text, number, yes_, no_, null, object, array, Pair}
-use Rattle.gl_json.specs.Escapes.{text_of}
-use Rattle.gl_json.specs.Flattening.{number_field, whole_of}
+use Rattle.gl_json.specs.Escapes.{said}
+use Rattle.gl_json.specs.Flattening.{number_field}
 use Rattle.gl_json.specs.Places.{object_of}
-use Rattle.gl_json.specs.Reading.{behind_first, elements_at, member_at, value_at}
-
--- what a string says; what isn't the inside of a string says nothing
-abbrev pub text_or_nothing : Result (List ℕ) JsonRefusal → List ℕ
-text_or_nothing (Ok said) = said
-text_or_nothing (Err refusal) = []
-
-abbrev pub said : List ℕ → List ℕ
-said raw = text_or_nothing (text_of raw)
+use Rattle.gl_json.specs.Reading.{elements_at, member_at, value_at}
 
 abbrev pub one : List ℕ → Held → List Field
 one name value = record { name = name; value = value } ∷ []

@@ -1,7 +1,7 @@
 ghost use Rattle.std.specs.Prelude.{◌≡◌};
 
 use gl_base::{Items, Text};
-use gl_outside::Pattern;
+use gl_patterns::Pattern;
 
 /// What was built for an extractor.
 #[derive(Drop)]

@@ -6,8 +6,7 @@ ghost use Rattle.gl_extract.specs.declared.parts.Converter.TheVariants.{Numeric,
 use crate::Converter;
 use gl_base::Text;
 use gl_fields::Value;
-use gl_syslog::facility_name;
-use gl_text::whole_number;
+use gl_text::{facility_name, whole_number};
 use std::alloc::{AllocError, Global};
 
 /// The value after these converters, in order.
@@ -73,9 +72,7 @@ fn lowercase(alloc: Global, value: Value) -> Result<Value, AllocError>
     ensures { IfOk result (λ v. v ≡ converted Lowercase value) }
 {
     match value {
-        Value::Text(text) => Ok(Value::Text(Text::from_string(
-            text.as_str().to_ascii_lowercase(alloc)?,
-        ))),
+        Value::Text(text) => Ok(Value::Text(gl_text::lowercase(alloc, text.as_str())?)),
         Value::Whole(number) => Ok(Value::Whole(number)),
     }
 }
@@ -85,9 +82,7 @@ fn uppercase(alloc: Global, value: Value) -> Result<Value, AllocError>
     ensures { IfOk result (λ v. v ≡ converted Uppercase value) }
 {
     match value {
-        Value::Text(text) => Ok(Value::Text(Text::from_string(
-            text.as_str().to_ascii_uppercase(alloc)?,
-        ))),
+        Value::Text(text) => Ok(Value::Text(gl_text::uppercase(alloc, text.as_str())?)),
         Value::Whole(number) => Ok(Value::Whole(number)),
     }
 }

@@ -1,15 +1,16 @@
 // An extractor works on the fields of a message.
-ghost use Rattle.std.specs.Prelude.{◌≡◌, IfOk, OnOk, OnErr, IfSome, option_and_then};
-ghost use Rattle.gl_outside.specs.Patterns.{group_in, CutsIn};
+ghost use Rattle.std.specs.Prelude.{◌≡◌, ℕ, List, IfOk, OnOk, OnErr, IfSome, option_and_then};
+ghost use Rattle.gl_patterns.specs.Patterns.{group_in, CutsIn};
 ghost use Rattle.gl_text.specs.Texts.{characters, piece};
-ghost use Rattle.gl_extract.specs.Extraction.{extracted, given, is_met, source_text, taken, AreBegun, Fits, IsBegun, IsOfCondition, IsOfKind};
+ghost use Rattle.gl_extract.specs.Extraction.{extracted, given, is_met, source_text, taken, condition_of, pattern_of, AreBegun, Fits, IsBegun};
 
-use crate::set_many::{set_named, set_object};
+use crate::groups::set_named;
+use crate::set_many::set_object;
 use crate::take::set_part;
 use crate::{Built, Condition, Extractor, ExtractorKind, ExtractorParts};
 use gl_base::Text;
 use gl_fields::FieldMap;
-use gl_outside::Pattern;
+use gl_patterns::Pattern;
 use gl_text::{characters, contains, piece};
 use std::alloc::{AllocError, Global};
 
@@ -56,7 +57,7 @@ fn is_met(
     built: &mut Option<Pattern>,
     text: &str,
 ) -> Result<bool, AllocError>
-    requires { IsOfCondition condition.now built.old }
+    requires { built.old ≡ condition_of condition.now }
     ensures value { IfOk result (λ yes. yes ≡ is_met condition.now text.now) }
     ensures same { built.new ≡ built.old }
 {
@@ -78,7 +79,7 @@ fn take(
     text: &str,
     fields: &mut FieldMap,
 ) -> Result<(), AllocError>
-    requires { IsOfKind parts.now.kind built.old.pattern }
+    requires { (expanded : List ℕ → List ℕ) × (built.old.pattern ≡ pattern_of expanded parts.now.kind) }
     ensures fields { OnOk result (fields.new ≡ taken parts.now.kind parts.now built.old text.now fields.old) }
     ensures err { OnErr result (AreBegun (given parts.now.kind parts.now built.old text.now) fields.old fields.new) }
     ensures same { built.new ≡ built.old }

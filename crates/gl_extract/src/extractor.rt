@@ -20,7 +20,7 @@ pub enum ExtractRefusal {
 }
 
 /// A rule that makes fields of a field's text.
-#[derive(Debug, Drop)]
+#[derive(Drop)]
 pub struct Extractor {
     parts: ExtractorParts,
 }

@@ -5,7 +5,7 @@ use gl_base::{Items, Text};
 use std::alloc::AllocError;
 
 /// How a text gives fields.
-#[derive(Debug, Drop)]
+#[derive(Drop)]
 pub enum ExtractorKind {
     /// Group 1 of the pattern's first match.
     Regex { pattern: Text, target: Text },
@@ -20,7 +20,7 @@ pub enum ExtractorKind {
 }
 
 /// Which texts an extractor takes.
-#[derive(Debug, Drop)]
+#[derive(Drop)]
 pub enum Condition {
     None,
     /// Those in which this text stands.
@@ -30,7 +30,7 @@ pub enum Condition {
 }
 
 /// How the value that was taken is changed before it is set.
-#[derive(Clone, Copy, Debug, PartialEq, Eq)]
+#[derive(Clone, Copy, PartialEq, Eq)]
 pub enum Converter {
     /// A text of digits, with or without `-` before them, becomes a whole number.
     Numeric,
@@ -43,7 +43,7 @@ pub enum Converter {
 }
 
 /// What an extractor is made of.
-#[derive(Debug, Drop)]
+#[derive(Drop)]
 pub struct ExtractorParts {
     pub kind: ExtractorKind,
     /// The name of the field whose text is read.

@@ -1,6 +1,6 @@
 // One part of a text is set in a field, and cut out of the source.
 ghost use Rattle.std.specs.Prelude.{◌≡◌, IfOk, OnOk, OnErr, IfSome};
-ghost use Rattle.gl_outside.specs.Patterns.{CutsIn};
+ghost use Rattle.gl_patterns.specs.Patterns.{CutsIn};
 ghost use Rattle.gl_extract.specs.Extraction.{part_given, rest_of, with_cut, with_part, AreBegun};
 
 use crate::ExtractorParts;

@@ -8,3 +8,4 @@ pub mod Spelling
 pub mod Stacking
 pub mod Tables
 pub mod Walking
+pub mod Alike

@@ -9,7 +9,7 @@ use std::alloc::Global;
 use std::collections::BTreeMap;
 
 /// What a pattern becomes.
-#[derive(Debug, Drop)]
+#[derive(Drop)]
 pub struct Expanded {
     /// A regular expression of at most 8,192 bytes.
     pub text: Text,

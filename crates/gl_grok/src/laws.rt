@@ -1,10 +1,12 @@
 // What the definitions say, as laws.
-ghost use Rattle.std.specs.Prelude.{◌≡◌, ◌↔◌, ◌<◌, ℕ, [], None, IsTrue, not, fold, length};
+ghost use Rattle.std.specs.Prelude.{◌≡◌, ◌↔◌, ◌<◌, ℕ, List, [], None, Ok, IsTrue, true, false, not, fold, length};
 ghost use Rattle.std.specs.List.{find};
+ghost use Rattle.gl_grok.specs.declared.expansion.Expanded.{Expanded};
+ghost use Rattle.gl_grok.specs.Answers.{answer};
 ghost use Rattle.gl_grok.specs.Expansion.{expansion, written};
 ghost use Rattle.gl_grok.specs.Names.{contains, met, names_met, reaches_itself, Reaches};
 ghost use Rattle.gl_grok.specs.Pieces.{names_in};
-ghost use Rattle.gl_grok.specs.Tables.{table_of, pattern_of, is_known};
+ghost use Rattle.gl_grok.specs.Tables.{Table, table_of, pattern_of, is_known, with_pattern};
 
 use std::collections::BTreeMap;
 
@@ -22,4 +24,12 @@ pub fn law_depth_is_enough(text: &str, table: &BTreeMap<String, String>)
     ensures expansion { find (λ name. not (is_known (table_of table.now) name)) (names_met (table_of table.now) text.now) ≡ None
         → find (reaches_itself (table_of table.now)) (names_met (table_of table.now) text.now) ≡ None
         → (depth : ℕ) → length (table_of table.now) < depth → written (table_of table.now) depth (record { text = []; fields = [] }) text.now ≡ expansion (table_of table.now) text.now }
+{}
+
+/// A name that isn't reached from a text plays no part in what the text is answered: with another pattern for it, or with one
+/// where the table had none, the same names are met and the same is answered. What a text that expands reaches, the table has.
+pub fn law_other_names_play_no_part()
+    ensures met { (table : Table) (text name pattern : List ℕ) → contains (names_met table text) name ≡ false → names_met (with_pattern table name pattern) text ≡ names_met table text }
+    ensures answer { (table : Table) (text name pattern : List ℕ) → contains (names_met table text) name ≡ false → answer (with_pattern table name pattern) text ≡ answer table text }
+    ensures known { (table : Table) (text name : List ℕ) (expanded : Expanded) → answer table text ≡ Ok expanded → contains (names_met table text) name ≡ true → is_known table name ≡ true }
 {}

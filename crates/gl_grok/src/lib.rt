@@ -13,11 +13,9 @@ mod names;
 mod pieces;
 mod refusal;
 mod table;
-#[cfg(test)]
-mod tests;
 mod writing;
 
 pub use expansion::{Expanded, expand};
 pub use initial::{initial_patterns, name_pattern};
-pub use laws::{law_depth_is_enough, law_names_reached};
+pub use laws::{law_depth_is_enough, law_names_reached, law_other_names_play_no_part};
 pub use refusal::GrokRefusal;

@@ -4,7 +4,7 @@ use Rattle.std.specs.Prelude.{option_map}
 use Rattle.std.specs.String.{string_bytes, string_eq, string_cmp}
 use Rattle.std.specs.Str.{bytes_eq}
 use Rattle.std.specs.Map.{lookup}
-use Rattle.std.specs.List.{AllZip, AllByRecursion}
+use Rattle.std.specs.List.{AllByRecursion}
 use Rattle.std.specs.List.Sorted.{IsStrictlySortedBy}
 use Rattle.std.specs.BTreeMap.{insert_entry}
 use Rattle.std.specs.Ordering.{nat_cmp, is_eq, match_ordering}
@@ -21,12 +21,6 @@ Entry = String Global × String Global
 
 abbrev pub pair : Entry → Pair
 pair entry = (string_bytes entry.0, string_bytes entry.1)
-
-pub same_clones : (xs ys : List Entry) → AllZip (λ p q. (string_bytes q.0 ≡ string_bytes p.0) × (string_bytes q.1 ≡ string_bytes p.1)) xs ys → map pair ys ≡ map pair xs
-same_clones [] [] h = refl
-same_clones [] (y ∷ ys) h = absurd h
-same_clones (x ∷ xs) [] h = absurd h
-same_clones (x ∷ xs) (y ∷ ys) h = λ i. (h.0.0 i, h.0.1 i) ∷ same_clones xs ys h.1 i
 
 pub value_found : (key : List ℕ) (xs : List Entry) → lookup (λ k. bytes_eq key k) (map pair xs) ≡ option_map string_bytes (lookup (λ k. is_eq (slice_cmp nat_cmp key (string_bytes k))) xs)
 value_found key [] = refl

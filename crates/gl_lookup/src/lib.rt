@@ -9,8 +9,6 @@ mod columns;
 mod refusal;
 mod rows;
 mod table;
-#[cfg(test)]
-mod tests;
 
 pub use refusal::LookupRefusal;
 pub use table::LookupTable;

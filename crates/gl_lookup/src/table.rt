@@ -8,6 +8,7 @@ use crate::LookupRefusal;
 use crate::columns::{Columns, columns_of};
 use crate::rows::{cell, next_row, reader_of};
 use csv::{Reader, StringRecord};
+use gl_base::Joint;
 use std::alloc::{AllocError, Global};
 use std::collections::BTreeMap;
 use std::marker::Model;
@@ -15,10 +16,10 @@ use std::marker::Model;
 /// How many records may follow the first.
 const MAX_ROWS: u64 = 10_000;
 
-/// What each key stands for.
-#[derive(Debug, Drop)]
+/// What each key stands for. Its copies share it.
+#[derive(Drop)]
 pub struct LookupTable {
-    values: BTreeMap<String, String>,
+    values: Joint<BTreeMap<String, String>>,
 }
 
 impl Model for LookupTable {
@@ -59,25 +60,24 @@ impl LookupTable {
             return Err(LookupRefusal::NoColumn);
         };
         let values = take_rows(alloc, &mut reader, &mut row, columns)?;
-        Ok(LookupTable { values })
+        Ok(LookupTable {
+            values: Joint::new(alloc, values)?,
+        })
     }
 
     /// What the key stands for. It takes no memory.
     pub fn value(&self, key: &str) -> Option<&str>
         ensures { option_map (λ s. s.now) result ≡ value_of key.now self.now }
     {
-        match self.values.get(key) {
-            Some(value) => Some(value.as_str()),
-            None => None,
-        }
+        value_in(self.values.get(), key)
     }
 
-    /// An equal table.
+    /// An equal table: one more owner of the same one, which takes no memory.
     pub fn copy(&self) -> Result<LookupTable, AllocError>
         ensures { IfOk result (λ t. t ≡ self.now) }
     {
         Ok(LookupTable {
-            values: self.values.clone()?,
+            values: self.values.share()?,
         })
     }
 
@@ -85,8 +85,24 @@ impl LookupTable {
     pub fn same(&self, other: &LookupTable) -> bool
         ensures { IsTrue result ↔ (self.now ≡ other.now) }
     {
-        self.values == other.values
+        are_same(self.values.get(), other.values.get())
     }
+}
+
+/// What the key stands for in a map.
+fn value_in<'m>(values: &'m BTreeMap<String, String>, key: &str) -> Option<&'m str>
+    ensures { option_map (λ s. s.now) result ≡ value_of key.now (pairs_of values.now) }
+{
+    match values.get(key) {
+        Some(value) => Some(value.as_str()),
+        None => None,
+    }
+}
+
+fn are_same(values: &BTreeMap<String, String>, others: &BTreeMap<String, String>) -> bool
+    ensures { IsTrue result ↔ (pairs_of values.now ≡ pairs_of others.now) }
+{
+    values == others
 }
 
 /// The values of the records that are left.

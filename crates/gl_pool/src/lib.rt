@@ -10,8 +10,6 @@
 mod mark;
 mod pool;
 mod span;
-#[cfg(test)]
-mod tests;
 
 pub use mark::{Claim, Mark, PoolAnswer};
 pub use pool::Pool;

@@ -1,6 +1,6 @@
 // The pool itself.
-ghost use Rattle.std.specs.Prelude.{◌≡◌, ◌+◌, ◌^◌, ◌<◌, ◌≤◌, ℕ, List, [], ◌∷◌, false, IfSome, MatchOption, OnOk, OnErr};
-ghost use Rattle.gl_pool.specs.Claims.{Call, Claimed, Finished, Abandoned, held_by, is_free, IsFreeRun, IsNextCommit, IsFinishAnswer, MayClaim};
+ghost use Rattle.std.specs.Prelude.{◌≡◌, ◌+◌, ◌^◌, ◌<◌, ◌≤◌, ℕ, List, [], ◌∷◌, length, false, IfSome, MatchOption, OnOk, OnErr};
+ghost use Rattle.gl_pool.specs.Claims.{Call, Claimed, Finished, Abandoned, claims_of, held_by, is_free, IsFreeRun, IsNextCommit, IsFinishAnswer, MayClaim};
 ghost use Rattle.gl_pool.specs.Kept.{StandsFor};
 
 use crate::mark::{Claim, Mark, PoolAnswer};
@@ -66,6 +66,13 @@ impl Pool {
         ensures { (start : ℕ) (calls : List Call) → StandsFor self.now start calls → result ≡ held_by calls worker }
     {
         mark_of(self.held.as_slice(), worker)
+    }
+
+    /// How many ranges are held.
+    pub fn held_count(&self) -> usize
+        ensures { (start : ℕ) (calls : List Call) → StandsFor self.now start calls → result ≡ length (claims_of calls) }
+    {
+        self.held.len()
     }
 
     /// Gives a worker that holds nothing a range: one that begins the first free run, and lies in it.

@@ -7,7 +7,7 @@ ghost use Rattle.gl_pool.specs.Taking.{Takes};
 use crate::mark::{Claim, Mark};
 
 /// The positions from `first` on and before `end`.
-#[derive(Clone, Copy, Debug, PartialEq, Eq)]
+#[derive(Clone, Copy)]
 pub(crate) struct Span {
     pub(crate) first: u64,
     pub(crate) end: u64,

@@ -1,12 +1,13 @@
 -- An id that is put among rising ones.
-use Rattle.std.proofs.Common.{◌≡◌, ◌⊎◌, inl, inr, ℕ, zero, suc, ◌<◌, ◌≤◌, Bool, true, false, cond, List, [], ◌∷◌, ◌++◌, length, take, drop, get_or, filter, fold, map, nat_lt, lt-ltb, ltb-true, refl, sym, ap, ◌∙◌, arith}
+use Rattle.std.proofs.Common.{◌≡◌, ◌⊎◌, inl, inr, ℕ, zero, suc, ◌<◌, ◌≤◌, Bool, true, false, cond, List, [], ◌∷◌, ◌++◌, length, take, drop, get_or, filter, fold, map, nat_lt, not, ◌==◌, lt-ltb, ltb-true, refl, sym, ap, ◌∙◌, arith, length-append}
 use Rattle.std.specs.List.{All, insert}
 use Rattle.std.proofs.lemmas.Bool.Decides.{nat_tests}
 use Rattle.std.proofs.lemmas.List.Elements.{All-get_or, All-head, All-tail, All-weaker, filter_passes}
 use Rattle.gl_fields.specs.Fields.{Rises}
 use Rattle.gl_fields.proofs.Rising.{Rises-filter, Rises-joined}
 use Rattle.gl_streams.specs.declared.stream.Stream.{Stream}
-use Rattle.gl_streams.specs.Ids.{with_id, ids_of}
+use Rattle.gl_fields.specs.declared.field.Field.{Field}
+use Rattle.gl_streams.specs.Ids.{with_id, without_id, ids_of, matching, one_removes, streams_of}
 
 abbrev pub Rising : List ℕ → Type 0
 Rising ids = Rises (λ (a b : ℕ). a < b) ids
@@ -102,7 +103,7 @@ kept (x ∷ xs) id (suc i) rises within e =
 
 -- Ids that are put in one after another rise.
 
-rises_with : (ids : List ℕ) (id : ℕ) → Rising ids → Rising (with_id ids id)
+pub rises_with : (ids : List ℕ) (id : ℕ) → Rising ids → Rising (with_id ids id)
 rises_with ids id rises =
     Rises-joined (λ (a b : ℕ). a < b) (λ a b c h k. omega arith) (filter (λ other. nat_lt other id) ids) id (filter (λ other. nat_lt id other) ids)
     (Rises-filter (λ (a b : ℕ). a < b) (λ other. nat_lt other id) ids rises)
@@ -120,3 +121,26 @@ ids_rise streams = rises_along [] (map (λ stream. stream.id) streams) tt
 pub chosen_rise : (removes : Bool) (ids : List ℕ) → Rising ids → Rising (cond removes ids (with_id ids 1))
 chosen_rise true ids rises = rises
 chosen_rise false ids rises = rises_with ids 1 rises
+
+-- One stream is always among them.
+
+some_with : (ids : List ℕ) (id : ℕ) → 0 < length (with_id ids id)
+some_with ids id =
+    let front = filter (λ other. nat_lt other id) ids in
+    let back = filter (λ other. nat_lt id other) ids in
+    omega (arith, length-append front (id ∷ back))
+
+some_along : (ids news : List ℕ) → 0 < length ids → 0 < length (fold with_id ids news)
+some_along ids [] some = some
+some_along ids (new ∷ news) some = some_along (with_id ids new) news (some_with ids new)
+
+chosen_some : (streams : List Stream) (removes : Bool) → one_removes streams ≡ removes → 0 < length (cond removes (ids_of streams) (with_id (ids_of streams) 1))
+chosen_some streams false e = some_with (ids_of streams) 1
+chosen_some [] true e = cc e
+chosen_some (stream ∷ streams) true e = some_along (with_id [] stream.id) (map (λ other. other.id) streams) (some_with [] stream.id)
+
+pub given_some : (streams : List Stream) (fields : List Field) → 0 < length (streams_of streams fields)
+given_some streams fields = chosen_some (matching streams fields) (one_removes (matching streams fields)) refl
+
+pub rises_without : (ids : List ℕ) (id : ℕ) → Rising ids → Rising (without_id ids id)
+rises_without ids id rises = Rises-filter (λ (a b : ℕ). a < b) (λ other. not (other == id)) ids rises

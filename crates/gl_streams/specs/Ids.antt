@@ -16,6 +16,10 @@ one_removes streams = list_any (λ stream. stream.remove_from_default) streams
 abbrev pub with_id : List ℕ → ℕ → List ℕ
 with_id ids id = filter (λ other. nat_lt other id) ids ++ id ∷ filter (λ other. nat_lt id other) ids
 
+-- ids without this one
+abbrev pub without_id : List ℕ → ℕ → List ℕ
+without_id ids id = filter (λ other. not (other == id)) ids
+
 -- the ids of these streams in rising order, each once
 abbrev pub ids_of : List Stream → List ℕ
 ids_of streams = fold with_id [] (map (λ stream. stream.id) streams)

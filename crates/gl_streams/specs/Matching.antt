@@ -5,10 +5,10 @@ use Rattle.std.specs.Str.{bytes_eq}
 use Rattle.std.specs.Borrow.{MutBor}
 use mathlib.Core.Logic.{inl, inr}
 use Rattle.gl_fields.specs.declared.field.Field.{Field}
-use Rattle.gl_fields.specs.declared.field.Value.{Value}
-use Rattle.gl_fields.specs.declared.field.Value.TheVariants as value
+use Rattle.gl_fields.specs.declared.value.Value.{Value}
+use Rattle.gl_fields.specs.declared.value.Value.TheVariants as value
 use Rattle.gl_fields.specs.Fields.{value_of, value_text}
-use Rattle.gl_outside.specs.Patterns.{is_found}
+use Rattle.gl_patterns.specs.Patterns.{is_found}
 use Rattle.gl_text.specs.Texts.{contains}
 use Rattle.gl_text.specs.Numbers.{whole_number}
 use Rattle.gl_streams.specs.declared.stream.Test.{Test}

@@ -2,13 +2,13 @@
 ghost use Rattle.std.specs.Prelude.{◌≡◌, Some, None, option_map, not, if◌then◌else◌, IfOk, int_lt};
 ghost use Rattle.std.specs.Str.{bytes_eq};
 ghost use Rattle.gl_fields.specs.Fields.{value_text};
-ghost use Rattle.gl_outside.specs.Patterns.{is_found};
+ghost use Rattle.gl_patterns.specs.Patterns.{is_found};
 ghost use Rattle.gl_text.specs.Texts.{contains};
 ghost use Rattle.gl_streams.specs.Matching.{given_back, number_of, is_number_that, passes, is_always, pattern_of, rule_holds};
 
 use crate::stream::{StreamRule, Test};
 use gl_fields::{FieldMap, Value};
-use gl_outside::Pattern;
+use gl_patterns::Pattern;
 use gl_text::{Decimal, contains, whole_number};
 use std::alloc::AllocError;
 

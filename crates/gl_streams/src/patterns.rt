@@ -1,6 +1,6 @@
 ghost use Rattle.std.specs.Prelude.{◌≡◌, map};
 
-use gl_outside::Pattern;
+use gl_patterns::Pattern;
 use std::marker::Model;
 
 /// The compiled patterns of streams: for each rule of each stream one, or none where it looks for none.

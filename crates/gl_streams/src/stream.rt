@@ -5,7 +5,7 @@ use gl_base::{Items, Text};
 use std::alloc::{AllocError, Global};
 
 /// What a rule asks of a field. Of a field that isn't there only `Always` is true.
-#[derive(Debug, Drop)]
+#[derive(Drop)]
 pub enum Test {
     /// The field's text has these bytes. The text of a whole number is its decimal.
     Exact(Text),
@@ -24,7 +24,7 @@ pub enum Test {
 }
 
 /// A test of one field.
-#[derive(Debug, Drop)]
+#[derive(Drop)]
 pub struct StreamRule {
     pub field: Text,
     pub test: Test,
@@ -33,7 +33,7 @@ pub struct StreamRule {
 }
 
 /// What a message goes to where its rules hold.
-#[derive(Debug, Drop)]
+#[derive(Drop)]
 pub struct Stream {
     pub id: u64,
     pub name: Text,

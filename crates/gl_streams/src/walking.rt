@@ -9,7 +9,7 @@ use crate::passing::rule_matches;
 use crate::patterns::StreamPatterns;
 use crate::stream::{Stream, StreamRule};
 use gl_fields::FieldMap;
-use gl_outside::Pattern;
+use gl_patterns::Pattern;
 use std::alloc::{AllocError, Global};
 
 // The stream to which a message goes unless one that matches removes it.

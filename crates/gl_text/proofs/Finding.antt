@@ -9,10 +9,10 @@ unfolding begins_with
 begins_front [] rest = refl
 begins_front (b ∷ part) rest = ap (λ t. t && begins_with part (part ++ rest)) (eq-eqb b b refl) ∙ begins_front part rest
 
-begins_at : (part text rest : List ℕ) → text ≡ part ++ rest → begins_with part text ≡ true
+pub begins_at : (part text rest : List ℕ) → text ≡ part ++ rest → begins_with part text ≡ true
 begins_at part text rest e = ap (begins_with part) e ∙ begins_front part rest
 
-begins_split : (part text : List ℕ) → begins_with part text ≡ true → (rest : List ℕ) × (text ≡ part ++ rest)
+pub begins_split : (part text : List ℕ) → begins_with part text ≡ true → (rest : List ℕ) × (text ≡ part ++ rest)
 unfolding begins_with
 begins_split [] text h = (text, refl)
 begins_split (b ∷ part) [] h = cc h
@@ -22,7 +22,7 @@ begins_split (b ∷ part) (c ∷ text) h =
     let same : b ≡ c = eqb-true b c both.0 in
     (tail.0, (let e : text ≡ part ++ tail.0 = tail.1 in cc))
 
-lacks_front : (part text : List ℕ) → ((rest : List ℕ) → text ≢ part ++ rest) → begins_with part text ≡ false
+pub lacks_front : (part text : List ℕ) → ((rest : List ℕ) → text ≢ part ++ rest) → begins_with part text ≡ false
 lacks_front part text lacks = pick (begins_with part text) refl
   where
     pick : (t : Bool) → begins_with part text ≡ t → begins_with part text ≡ false

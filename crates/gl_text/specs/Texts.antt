@@ -1,7 +1,7 @@
 -- Where a part stands in a text, the pieces between its occurrences, and characters by their numbers (this project).
 use Rattle.std.specs.Prelude.{ℕ, zero, suc, ◌+◌, ◌-◌, Bool, true, false, ◌||◌, ◌&&◌, ◌==◌, nat_lt, nat_le, List, [], ◌∷◌, length, take, drop, if◌then◌else◌, Option, Some, None, is_some, option_map, option_and_then}
 use Rattle.std.specs.Option.{unwrap_or}
-use Rattle.std.specs.Str.{chars, encode_utf8_all}
+use Rattle.std.specs.Str.{bytes_eq, chars, encode_utf8_all}
 
 -- the text begins with the part
 unfoldable pub begins_with : List ℕ → List ℕ → Bool
@@ -13,6 +13,10 @@ begins_with (b ∷ part) (c ∷ text) = b == c && begins_with part text
 unfoldable pub first_at : List ℕ → List ℕ → Option ℕ
 first_at part [] = if begins_with part [] then Some 0 else None
 first_at part (b ∷ text) = if begins_with part (b ∷ text) then Some 0 else option_map suc (first_at part text)
+
+-- the text ends with the part
+abbrev pub ends_with : List ℕ → List ℕ → Bool
+ends_with part text = bytes_eq part (drop (length text - length part) text)
 
 -- the part stands in the text
 abbrev pub contains : List ℕ → List ℕ → Bool

@@ -2,8 +2,8 @@
 ghost use Rattle.std.specs.Prelude.{◌≡◌, ◌+◌, ◌≤◌, length, IfSome, IsCharBoundary};
 ghost use Rattle.gl_text.specs.Texts.{first_at, contains, piece};
 
-// Behind how many bytes the part first stands in the text.
-fn first_at(text: &str, part: &str) -> Option<usize>
+/// Behind how many bytes the part first stands in the text.
+pub fn first_at(text: &str, part: &str) -> Option<usize>
     ensures value { result ≡ first_at part.now text.now }
     ensures begins { IfSome result (λ k. IsCharBoundary text.now k) }
     ensures ends { IfSome result (λ k. IsCharBoundary text.now (k + length part.now)) }

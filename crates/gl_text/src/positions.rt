@@ -28,3 +28,10 @@ pub fn characters(text: &str, begin: u64, end: u64) -> Option<(usize, usize)>
     let first = bytes_of(text, begin)?;
     Some((first, last))
 }
+
+/// How many characters the text has.
+pub fn character_count(text: &str) -> usize
+    ensures { result ≡ length (chars text.now) }
+{
+    text.chars().count()
+}

@@ -5,7 +5,7 @@ use Rattle.std.proofs.lemmas.List.{map-id}
 use Rattle.std.proofs.lemmas.Iterator.Adapters.{YieldsList-from_vec}
 use Rattle.std.proofs.lemmas.Iterator.Consumers.{YieldsList-end, YieldsList-so_far}
 use Rattle.gl_fields.specs.declared.field.Field.{Field}
-use Rattle.gl_fields.specs.declared.field.Value.{Value}
+use Rattle.gl_fields.specs.declared.value.Value.{Value}
 use Rattle.gl_extract.specs.Extraction.{set_all}
 use Rattle.gl_extract.specs.Objects.{object_fields}
 use Rattle.gl_extract.specs.Views.{field_of_pair}

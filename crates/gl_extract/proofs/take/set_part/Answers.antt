@@ -1,6 +1,6 @@
 use Rattle.std.proofs.Common.{◌≡◌, ◌∙◌, ℕ, List, Option, ap, sym, subst, refl}
-use Rattle.gl_fields.specs.declared.field.Value.{Value}
-use Rattle.gl_fields.specs.declared.field.Value.TheVariants.{Text}
+use Rattle.gl_fields.specs.declared.value.Value.{Value}
+use Rattle.gl_fields.specs.declared.value.Value.TheVariants.{Text}
 use Rattle.gl_extract.specs.declared.parts.Converter.{Converter}
 use Rattle.gl_extract.specs.Converting.{converted_by}
 use Rattle.gl_extract.specs.Extraction.{set_or_left, part_given, part_of, target_field, AreBegun}

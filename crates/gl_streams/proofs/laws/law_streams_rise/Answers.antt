@@ -1,5 +1,5 @@
 use Rattle.gl_streams.specs.Ids.{matching, one_removes, ids_of}
-use Rattle.gl_streams.proofs.Putting.{ids_rise, chosen_rise}
+use Rattle.gl_streams.proofs.Putting.{ids_rise, chosen_rise, given_some}
 use Rattle.gl_streams.proofs.Belonging.{exactly_given}
 use Rattle.gl_streams.proofs.laws.law_streams_rise.Goals as goal
 
@@ -10,3 +10,6 @@ returns-clause-rises c = λ streams fields.
 
 pub returns-clause-exactly : goal.returns-clause-exactly
 returns-clause-exactly c = exactly_given
+
+pub returns-clause-some : goal.returns-clause-some
+returns-clause-some c = given_some

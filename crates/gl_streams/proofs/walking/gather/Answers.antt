@@ -47,7 +47,7 @@ loop-i-preserved c =
     let matches : stream_matches stream fields ≡ true = sym c.in_ok-stream_matches.ensures.value ∙ c.if-not-branch.false in
     record {
       gathered =
-          c.in_ok-put.ensures
+          c.in_ok-put.ensures.ids
           ∙ ap (λ ids. with_id ids stream.id) l.invariant.gathered
           ∙ id_put streams fields l.i stream c.loop-i-test.true c.index-streams-i.is matches;
       removal =
