@@ -8,7 +8,7 @@ use Rattle.std.proofs.lemmas.Slice.Eq.{bytes_eq-Decides}
 use Rattle.std.proofs.lemmas.List.Elements.{All-head, All-tail}
 use Rattle.gl_fields.specs.Fields.{comes_before}
 use Rattle.gl_indexset.specs.declared.row.Row.{Row}
-use Rattle.gl_indexset.specs.declared.row.SetRule.{SetRule}
+use Rattle.gl_fields.specs.declared.set_rule.SetRule.{SetRule}
 use Rattle.gl_indexset.specs.Retention.{Numbered, is_in, newest_number, rows_of, numbered, numbers_of, with_rule}
 use Rattle.gl_indexset.specs.SetKept.{SetKept, is_held, is_held_by, oldest_of, starts_by, IsSetSound}
 use Rattle.gl_indexset.specs.Kept.{Kept, rules_of, is_known, AreKnown, IsSound, Summarizes, StandsFor, indexes_of}

@@ -6,7 +6,7 @@ use Rattle.std.proofs.lemmas.Option.{get_or_from_slice_get}
 use Rattle.gl_indexset.specs.declared.set.Index.{Index}
 use Rattle.std.proofs.lemmas.Bool.Decides.{nat_tests}
 use Rattle.gl_indexset.specs.declared.row.Row.{Row}
-use Rattle.gl_indexset.specs.declared.row.SetRule.{SetRule}
+use Rattle.gl_fields.specs.declared.set_rule.SetRule.{SetRule}
 use Rattle.gl_indexset.specs.Retention.{is_in, live_rows}
 use Rattle.gl_indexset.specs.Rising.{AreRising}
 use Rattle.gl_indexset.specs.SetKept.{SetKept, begun, drop_if, is_index_full, stored, oldest_after, oldest_of, starts_by, is_held_by, is_held, goes, first_lost}
@@ -69,11 +69,11 @@ each_at P (x ∷ xs) e zero d lt = e.0
 each_at P (x ∷ xs) e (suc k) d lt = each_at P xs e.1 k d (omega arith)
 
 -- positions rise, by cases on the list
-abbrev Rises : List Row → Type 0
+abbrev pub Rises : List Row → Type 0
 Rises [] = Unit {0}
 Rises (row ∷ rows) = Each (λ (other : Row). row.position < other.position) rows × Rises rows
 
-rises : (rows : List Row) → AreRising rows → Rises rows
+pub rises : (rows : List Row) → AreRising rows → Rises rows
 rises [] rising = tt
 rises (row ∷ rows) rising = (
   each_of (λ (other : Row). row.position < other.position) rows (λ k d lt. rising zero (suc k) d (omega arith) (omega arith)),
@@ -139,13 +139,13 @@ module _ (p : Row → Bool) (tail : List Row) (top : ℕ) (above : Each (λ (row
       over false rest = rest
 
 module _ (kept : Kept) (row : Row) (sound : IsSound kept) (above : kept.next ≤ row.position) (all : List Row) (stands : StandsFor kept all) where
-  abbrev after : List SetKept
+  abbrev pub after : List SetKept
   after = map (goes row) kept.sets
 
-  abbrev last : List Row
+  abbrev pub last : List Row
   last = cond (is_held after row) (row ∷ []) []
 
-  live_after : live_rows (rules_of kept) (row ∷ all) ≡ filter (is_held after) kept.rows ++ last
+  pub live_after : live_rows (rules_of kept) (row ∷ all) ≡ filter (is_held after) kept.rows ++ last
   live_after =
       let new : Kept = record { sets = after; rows = filter (is_held after) kept.rows ++ last; next = row.position + 1; room = kept.room } in
       ap (λ (l : List SetRule). live_rows l (row ∷ all)) (sym (rules_are kept row sound above new refl (is_held after row) refl refl refl))
@@ -155,7 +155,7 @@ module _ (kept : Kept) (row : Row) (sound : IsSound kept) (above : kept.next ≤
   last_above true = (omega arith, tt)
   last_above false = tt
 
-  tells : (k : ℕ) (d : Row) → k < length kept.rows → has_position (live_rows (rules_of kept) (row ∷ all)) (get_or kept.rows k d).position ≡ is_held after (get_or kept.rows k d)
+  pub tells : (k : ℕ) (d : Row) → k < length kept.rows → has_position (live_rows (rules_of kept) (row ∷ all)) (get_or kept.rows k d).position ≡ is_held after (get_or kept.rows k d)
   tells k d lt =
       ap (λ (l : List Row). has_position l (get_or kept.rows k d).position) live_after
       ∙ there (is_held after) last row.position (last_above (is_held after row)) kept.rows (rises kept.rows sound.rising)

@@ -1,6 +1,9 @@
 pub mod Adding
+pub mod Coming
 pub mod Compacting
 pub mod Departing
+pub mod Dropping
+pub mod Finding
 pub mod Keeping
 pub mod Listing
 pub mod Numbering

@@ -6,7 +6,7 @@ use Rattle.std.proofs.lemmas.List.Concat.{flat_map-cons}
 use Rattle.std.proofs.lemmas.Bool.Decides.{nat_tests}
 use Rattle.std.proofs.lemmas.List.{append_assoc, append-nil, length-map, length-reverse, length-take, take_all, take_more, reverse-reverse}
 use Rattle.gl_indexset.specs.declared.row.Row.{Row}
-use Rattle.gl_indexset.specs.declared.row.SetRule.{SetRule}
+use Rattle.gl_fields.specs.declared.set_rule.SetRule.{SetRule}
 use Rattle.gl_indexset.specs.declared.set.Index.{Index}
 use Rattle.gl_indexset.specs.Retention.{Numbered, index_of, newest_number, number_after, is_full, rows_of, numbered, numbers_of}
 use Rattle.gl_indexset.specs.SetKept.{SetKept, named_from, indexes_kept, IsSetSound}

@@ -3,7 +3,7 @@ use Rattle.std.proofs.Common.{◌≡◌, ℕ, zero, suc, ◌≤◌, ◌||◌, Li
 use Rattle.std.specs.Prelude.{slice_set}
 use Rattle.std.specs.List.{All, slice_get}
 use Rattle.gl_indexset.specs.declared.row.Row.{Row}
-use Rattle.gl_indexset.specs.declared.row.SetRule.{SetRule}
+use Rattle.gl_fields.specs.declared.set_rule.SetRule.{SetRule}
 use Rattle.gl_indexset.specs.Retention.{numbers_of, live_rows}
 use Rattle.gl_indexset.specs.SetKept.{SetKept, is_held, is_held_by, AreRoomier, IsRoomier, IsSetSound}
 use Rattle.gl_indexset.specs.Kept.{Kept, rules_of, spare_of, AreKnown, IsSound, Summarizes, StandsFor}

@@ -3,7 +3,7 @@ use Rattle.std.proofs.Common.{◌≡◌, ℕ, ◌+◌, ◌<◌, ◌≤◌, Bool,
 use Rattle.std.specs.List.{All, list_any}
 use Rattle.std.proofs.lemmas.List.Elements.{All-head, All-tail, All-cons, filter-append}
 use Rattle.gl_indexset.specs.declared.row.Row.{Row}
-use Rattle.gl_indexset.specs.declared.row.SetRule.{SetRule}
+use Rattle.gl_fields.specs.declared.set_rule.SetRule.{SetRule}
 use Rattle.gl_indexset.specs.Retention.{Numbered, is_in, rows_of, numbered, numbers_of, number_after, newest_number, is_live_in, live_among}
 use Rattle.gl_indexset.specs.SetKept.{SetKept, stored, oldest_of, starts_by, is_held_by, is_held, goes, IsSetSound}
 use Rattle.gl_indexset.specs.Kept.{AreFalling, Summarizes, indexes_of}
@@ -52,7 +52,7 @@ module _ (all : List Row) where
       over true told = told
       over false told = (refl, told)
 
-  some_live : (row : Row) (before : List Row) (sets : List SetKept) → Each (TellsAll (row ∷ before)) sets
+  pub some_live : (row : Row) (before : List Row) (sets : List SetKept) → Each (TellsAll (row ∷ before)) sets
       → (list_any (is_live_in all before row) (map (λ (s : SetKept). s.rule) sets) ≡ is_held sets row) × Each (TellsAll before) sets
   some_live row before [] e = (refl, tt)
   some_live row before (set ∷ sets) e =

@@ -1,19 +1,19 @@
 -- What is kept after a row was stored.
 use Rattle.std.proofs.Common.{◌≡◌, ℕ, ◌+◌, ◌-◌, ◌<◌, ◌≤◌, Bool, true, false, cond, nat_le, min, List, [], ◌∷◌, ◌++◌, length, map, filter, fold, sym, ◌∙◌, ap, subst, arith}
-use Rattle.std.specs.List.{All, AllPairs}
+use Rattle.std.specs.List.{All, AllPairs, list_any}
 use Rattle.std.proofs.lemmas.List.{append-nil}
 use Rattle.std.proofs.lemmas.List.Elements.{All-cons, All-filter, All-push, filter-append, filter_passes}
 use Rattle.std.proofs.lemmas.List.Kept.{AllPairs-filter}
 use Rattle.std.proofs.lemmas.List.Quantifiers.{all_pairs_push}
 use Rattle.gl_indexset.specs.declared.row.Row.{Row}
-use Rattle.gl_indexset.specs.declared.row.SetRule.{SetRule}
-use Rattle.gl_indexset.specs.Retention.{numbers_of, live_rows}
+use Rattle.gl_fields.specs.declared.set_rule.SetRule.{SetRule}
+use Rattle.gl_indexset.specs.Retention.{numbers_of, is_live_in, live_rows}
 use Rattle.gl_indexset.specs.SetKept.{SetKept, is_held, goes, stored, IsSetSound, IsReadyFor}
 use Rattle.gl_indexset.specs.Kept.{Kept, rules_of, spare_of, AreFalling, AreKnown, IsSound, Summarizes, StandsFor}
 use Rattle.gl_indexset.specs.Retention.{is_in}
 use Rattle.gl_indexset.proofs.Sweeping.{by_cases, filter_wider}
 use Rattle.gl_indexset.proofs.Numbering.{Each, each_map, each_map_with}
-use Rattle.gl_indexset.proofs.Standing.{each_of, all_of, in_order, live_is, all_tell, TellsAll, goes_sound, goes_summarizes, rules_stay, held_earlier, falling_more}
+use Rattle.gl_indexset.proofs.Standing.{each_of, all_of, in_order, live_is, some_live, all_tell, TellsAll, goes_sound, goes_summarizes, rules_stay, held_earlier, falling_more}
 
 each_over : {X Y : Type 0} (P : Y → Type 0) (f : X → Y) (xs : List X) → Each (λ x. P (f x)) xs → Each P (map f xs)
 each_over P f [] e = tt
@@ -144,6 +144,10 @@ module _ (kept : Kept) (row : Row) (sound : IsSound kept) (above : kept.next ≤
           (each_map (λ (r : Row). r.position < kept.next) (λ (r : Row). is_held new.sets r ≡ true → is_held kept.sets r ≡ true)
           (λ r lt h. held_earlier kept.next row r (omega (arith, lt, above)) above kept.sets each_sound (ap (λ (l : List SetKept). is_held l r) (sym sets_are) ∙ h))
           all (falling_each kept.next all stands.falling))
+
+      -- the new row is held where the index numbers call it live
+      pub held_is : is_held new.sets row ≡ list_any (is_live_in (row ∷ all) all row) (rules_of new)
+      held_is = sym ((some_live (row ∷ all) row all new.sets tell_now).0)
 
       -- what is live is as the index numbers say
       pub live_now : new.rows ≡ live_rows (rules_of new) (row ∷ all)

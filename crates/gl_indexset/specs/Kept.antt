@@ -1,11 +1,11 @@
 -- What index sets keep, and which rows that stands for.
-use Rattle.std.specs.Prelude.{◌≡◌, ℕ, ◌<◌, Bool, true, false, List, [], ◌∷◌, map, fold, min, max, take, reverse, ◌==◌, if◌then◌else◌}
+use Rattle.std.specs.Prelude.{◌≡◌, ℕ, ◌<◌, Bool, true, false, not, ◌&&◌, List, [], ◌∷◌, map, filter, fold, min, max, take, reverse, ◌==◌, if◌then◌else◌}
 use Rattle.std.specs.List.{All, list_any}
 use Rattle.std.specs.Str.{bytes_eq}
 use Rattle.gl_indexset.specs.declared.row.Row.{Row}
-use Rattle.gl_indexset.specs.declared.row.SetRule.{SetRule}
+use Rattle.gl_fields.specs.declared.set_rule.SetRule.{SetRule}
 use Rattle.gl_indexset.specs.declared.set.Index.{Index}
-use Rattle.gl_indexset.specs.Retention.{Numbered, numbers_of, newest_number, live_rows}
+use Rattle.gl_indexset.specs.Retention.{Numbered, is_in, numbers_of, newest_number, live_rows}
 use Rattle.gl_indexset.specs.Rising.{AreRising, AreBelow}
 use Rattle.gl_indexset.specs.SetKept.{SetKept, IsSetSound, begun, is_held, one_more}
 
@@ -29,6 +29,10 @@ spare_of kept = fold (λ least set. min least set.spare) kept.room kept.sets
 -- a set of this name has a rule
 abbrev pub is_known : List SetRule → List ℕ → Bool
 is_known rules name = list_any (λ rule. bytes_eq name rule.name) rules
+
+-- the rules but the one of this name, if none of these rows is in its set
+abbrev pub without_unused : List ℕ → List Row → List SetRule → List SetRule
+without_unused name rows rules = filter (λ rule. not (bytes_eq name rule.name && not (list_any (is_in rule) rows))) rules
 
 abbrev pub AreKnown : List SetRule → List (List ℕ) → Type 0
 AreKnown rules names = All (λ name. is_known rules name ≡ true) names

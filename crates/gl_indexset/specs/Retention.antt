@@ -5,7 +5,7 @@ use Rattle.std.specs.List.{list_any}
 use Rattle.std.specs.Str.{bytes_eq}
 use Rattle.gl_fields.specs.Fields.{comes_before}
 use Rattle.gl_indexset.specs.declared.row.Row.{Row}
-use Rattle.gl_indexset.specs.declared.row.SetRule.{SetRule}
+use Rattle.gl_fields.specs.declared.set_rule.SetRule.{SetRule}
 
 -- rules in order of their names' bytes, with one more
 abbrev pub with_rule : SetRule → List SetRule → List SetRule
@@ -46,10 +46,14 @@ number_after rule [] moment = 0
 number_after rule (last ∷ before) moment =
     if is_full rule (index_of last.number (last ∷ before)) moment then last.number + 1 else last.number
 
+-- the numbered rows of a set with one more behind them
+abbrev pub numbered_onto : SetRule → Row → List Numbered → List Numbered
+numbered_onto rule row before = record { number = number_after rule before row.moment; row = row } ∷ before
+
 -- the rows of a set with their index numbers
 abbrev pub numbered : SetRule → List Row → List Numbered
 numbered rule [] = []
-numbered rule (row ∷ before) = record { number = number_after rule (numbered rule before) row.moment; row = row } ∷ numbered rule before
+numbered rule (row ∷ before) = numbered_onto rule row (numbered rule before)
 
 abbrev pub newest_number : List Numbered → ℕ
 newest_number [] = 0

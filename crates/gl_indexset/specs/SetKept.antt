@@ -2,7 +2,7 @@
 use Rattle.std.specs.Prelude.{ℕ, ◌+◌, ◌-◌, ◌≡◌, ◌<◌, ◌≤◌, Bool, false, not, ◌&&◌, ◌||◌, nat_le, ◌==◌, if◌then◌else◌, List, [], ◌∷◌, ◌++◌, length, drop, max, nat_lt, Option, Some, None}
 use Rattle.std.specs.List.{list_any}
 use Rattle.gl_indexset.specs.declared.row.Row.{Row}
-use Rattle.gl_indexset.specs.declared.row.SetRule.{SetRule}
+use Rattle.gl_fields.specs.declared.set_rule.SetRule.{SetRule}
 use Rattle.gl_indexset.specs.declared.set.Index.{Index}
 use Rattle.gl_indexset.specs.Retention.{is_in}
 use Rattle.gl_indexset.specs.Summary.{index_name}

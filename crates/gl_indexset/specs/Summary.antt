@@ -3,7 +3,7 @@ use Rattle.std.specs.Prelude.{ℕ, zero, suc, ◌+◌, nat_lt, if◌then◌else�
 use Rattle.std.specs.List.{flat_map}
 use Rattle.std.specs.Fmt.{decimal}
 use Rattle.gl_indexset.specs.declared.row.Row.{Row}
-use Rattle.gl_indexset.specs.declared.row.SetRule.{SetRule}
+use Rattle.gl_fields.specs.declared.set_rule.SetRule.{SetRule}
 use Rattle.gl_indexset.specs.Retention.{Numbered, index_of, newest_number, numbers_of}
 
 -- the name of an index: its set's, `_` and its number

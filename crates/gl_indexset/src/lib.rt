@@ -7,6 +7,7 @@
 //! (`specs/Retention`). The sets keep of it the first positions of their live indexes and the live rows.
 #![tactic(auto)]
 
+mod counted;
 mod leaving;
 mod ranks;
 mod row;
@@ -15,9 +16,9 @@ mod sets;
 mod shelf;
 mod steps;
 mod sweep;
-#[cfg(test)]
-mod tests;
 
-pub use row::{Row, SetRule};
+pub use counted::Counted;
+pub use gl_fields::SetRule;
+pub use row::Row;
 pub use sets::IndexSets;
 pub use steps::Steps;

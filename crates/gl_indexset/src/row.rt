@@ -1,56 +1,16 @@
-// Rows, and the rules of index sets.
-ghost use Rattle.std.specs.Prelude.{◌≡◌, ◌↔◌, IfOk, IsTrue};
-
-use gl_base::{Items, Text};
+use gl_base::{Items, Joint, Text};
 use gl_fields::FieldMap;
-use std::alloc::AllocError;
 
-/// When an index set begins a new index, and how many it keeps.
-#[derive(Debug, Drop)]
-pub struct SetRule {
-    pub name: Text,
-    /// A new index is begun once the newest has so many rows; 0 for no limit.
-    pub max_docs: u64,
-    /// A new index is begun once the first row of the newest is so old, in milliseconds; 0 for no limit.
-    pub max_ms: u64,
-    /// How many indexes are kept, the newest among them.
-    pub keep: u64,
-}
-
-/// A stored message.
-#[derive(Debug, Drop)]
+/// A stored message. Rows may share what they have in common.
+#[derive(Drop)]
 pub struct Row {
     /// Its position in the journal.
     pub position: u64,
     /// When it was received, in milliseconds since 1970.
     pub moment: u64,
     /// The ids of its streams.
-    pub streams: Items<u64>,
+    pub streams: Joint<Items<u64>>,
     /// The names of its index sets.
-    pub sets: Items<Text>,
-    pub fields: FieldMap,
-}
-
-impl SetRule {
-    /// An equal rule.
-    pub fn copy(&self) -> Result<SetRule, AllocError>
-        ensures { IfOk result (λ r. r ≡ self.now) }
-    {
-        Ok(SetRule {
-            name: self.name.copy()?,
-            max_docs: self.max_docs,
-            max_ms: self.max_ms,
-            keep: self.keep,
-        })
-    }
-
-    /// Whether both are equal. It takes no memory.
-    pub fn same(&self, other: &SetRule) -> bool
-        ensures { IsTrue result ↔ (self.now ≡ other.now) }
-    {
-        self.max_docs == other.max_docs
-            && self.max_ms == other.max_ms
-            && self.keep == other.keep
-            && self.name.same(&other.name)
-    }
+    pub sets: Joint<Items<Text>>,
+    pub fields: Joint<FieldMap>,
 }

@@ -7,15 +7,16 @@ ghost use Rattle.gl_indexset.specs.Retention.{is_in};
 ghost use Rattle.gl_indexset.specs.SetKept.{SetKept, begun, is_index_full, is_old, stored, rotated, goes, oldest_of, is_held_by, first_lost, indexes_kept};
 ghost use Rattle.gl_indexset.specs.Summary.{index_name};
 
-use crate::row::{Row, SetRule};
+use crate::row::Row;
 use gl_base::{Items, Text};
+use gl_fields::SetRule;
 use std::alloc::{AllocError, Global};
 use std::cmp::Ordering;
 use std::collections::VecDeque;
 use std::marker::Model;
 
 /// An index: its first row, and how many it has.
-#[derive(Clone, Copy, Debug)]
+#[derive(Clone, Copy)]
 pub(crate) struct Index {
     pub(crate) first: u64,
     pub(crate) moment: u64,
@@ -76,11 +77,18 @@ impl IndexSet {
         name == self.rule.name.as_str()
     }
 
+    /// Whether the set has this name and no row was stored in it.
+    pub(crate) fn is_unused(&self, name: &str) -> bool
+        ensures { result ≡ (bytes_eq name.now self.now.rule.name && self.now.newest.rows == 0) }
+    {
+        self.has_name(name) && self.newest.rows == 0
+    }
+
     /// Whether a row goes into this set.
     pub(crate) fn takes(&self, row: &Row) -> bool
         ensures { result ≡ is_in self.now.rule row.now }
     {
-        is_named(row.sets.as_slice(), self.rule.name.as_str())
+        is_named(row.sets.get().as_slice(), self.rule.name.as_str())
     }
 
     /// The position of the first live row.

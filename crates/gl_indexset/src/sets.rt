@@ -1,22 +1,25 @@
 // The sets together, and the live rows.
-ghost use Rattle.std.specs.Prelude.{◌≡◌, ◌+◌, ◌<◌, ◌≤◌, ◌^◌, ◌-◌, ℕ, List, [], ◌∷◌, false, length, Some, slice_get, IfOk, IfSome, OnOk, OnErr};
+ghost use Rattle.std.specs.Prelude.{◌≡◌, ◌+◌, ◌<◌, ◌≤◌, ◌^◌, ◌-◌, ℕ, List, [], ◌∷◌, ◌==◌, ◌&&◌, not, false, filter, length, Some, slice_get, IfOk, IfSome, MatchOption, OnOk, OnErr};
 ghost use Rattle.gl_indexset.specs.declared.row.Row.{Row};
-ghost use Rattle.std.specs.List.{All, flat_map, list_any, position};
+ghost use Rattle.std.specs.List.{All, Contains, flat_map, list_any, position};
 ghost use Rattle.std.specs.Str.{bytes_eq};
 ghost use Rattle.gl_fields.specs.Fields.{comes_before};
-ghost use Rattle.gl_indexset.specs.Kept.{AreKnown, StandsFor, is_known, rules_of, spare_of};
-ghost use Rattle.gl_indexset.specs.Retention.{with_rule, live_rows};
+ghost use Rattle.gl_indexset.specs.Kept.{AreKnown, StandsFor, is_known, rules_of, spare_of, without_unused};
+ghost use Rattle.gl_indexset.specs.Retention.{is_in, with_rule, live_rows};
 ghost use Rattle.gl_indexset.specs.SetKept.{AreRoomier, indexes_kept};
-ghost use Rattle.gl_indexset.specs.Leaving.{IsNextLeaving};
+ghost use Rattle.gl_indexset.specs.Leaving.{IsGoneOn, IsNextLeaving, IsStepOfLeaving, has_position};
+ghost use Rattle.gl_indexset.specs.Rising.{AreRising};
 ghost use Rattle.gl_indexset.specs.Summary.{summary_of};
+ghost use Rattle.gl_fields.specs.declared.set_rule.SetRule.{SetRule};
 
 use crate::leaving::next_unheld;
-use crate::row::{Row, SetRule};
+use crate::row::Row;
 use crate::set::IndexSet;
 use crate::shelf::Shelf;
 use crate::steps::Steps;
-use crate::sweep::{enter_all, is_held};
+use crate::sweep::{enter_all, first_from, is_held};
 use gl_base::{Items, Text};
+use gl_fields::SetRule;
 use std::alloc::{AllocError, Global};
 use std::marker::Model;
 use std::sync::ledger::Ledger;
@@ -75,6 +78,21 @@ impl IndexSets {
         Ok(())
     }
 
+    /// Takes the set of this name back, in which no row was stored; one that has rows stays.
+    ///
+    /// It takes no memory.
+    pub fn drop_set(&mut self, name: &str)
+        ensures stands { (all : List Row) → StandsFor self.old all → StandsFor self.new all }
+        ensures rules { (all : List Row) → StandsFor self.old all → rules_of self.new ≡ without_unused name.now all (rules_of self.old) }
+        ensures undone { (rule : SetRule) (rules : List SetRule) (all : List Row) → StandsFor self.old all → rules_of self.old ≡ with_rule rule rules
+            → rule.name ≡ name.now → is_known rules name.now ≡ false → list_any (is_in rule) all ≡ false → rules_of self.new ≡ rules }
+        ensures rows { self.new.rows ≡ self.old.rows }
+        ensures next { self.new.next ≡ self.old.next }
+        ensures spare { spare_of self.old ≤ spare_of self.new }
+    {
+        drop_unused(&mut self.sets, name);
+    }
+
     /// Whether there is a set of this name.
     pub fn has_set(&self, name: &str) -> bool
         ensures { result ≡ is_known (rules_of self.now) name.now }
@@ -99,6 +117,15 @@ impl IndexSets {
         self.rows.get(n as usize)
     }
 
+    /// The live row at a position of the journal, and `None` where there is none. It counts one step.
+    pub fn row_at<L: Ledger>(&self, position: u64, steps: &mut Steps<L>) -> Option<&Row>
+        ensures row { MatchOption result (has_position self.now.rows position ≡ false) (λ row. (row.now.position ≡ position) × Contains self.now.rows row.now) }
+        ensures steps { steps.new ≡ steps.old + 1 }
+    {
+        steps.tick();
+        row_at(&self.rows, position)
+    }
+
     /// Each live index with how many rows it has, by the sets' names and then by number. The name of an
     /// index is its set's, `_` and its number: `graylog_0`.
     pub fn summary(&self) -> Result<Items<(Text, u64)>, AllocError>
@@ -114,8 +141,20 @@ impl IndexSets {
         ensures within { IfSome result (λ n. n < length self.now.rows) }
         ensures leaving { (all : List Row) → StandsFor self.now all
             → IsNextLeaving (live_rows (rules_of self.now) all) (live_rows (rules_of self.now) (row.now ∷ all)) from result }
+        ensures steps { (all : List Row) → StandsFor self.now all
+            → IsStepOfLeaving (live_rows (rules_of self.now) (row.now ∷ all)) self.now.rows from result }
     {
         next_unheld(&self.rows, self.sets.as_slice(), row, from)
+    }
+
+    /// Law: what is live once a row is stored is what stays of the live rows, in their order, and behind
+    /// them the new row, where it goes into a set that keeps indexes.
+    pub fn law_rows_come_and_leave(&self, row: &Row)
+        requires { self.now.next ≤ row.now.position }
+        ensures { (all : List Row) → StandsFor self.now all
+            → IsGoneOn (rules_of self.now) row.now (live_rows (rules_of self.now) all) (live_rows (rules_of self.now) (row.now ∷ all)) }
+    {
+        let _next = self.next;
     }
 
     /// Makes room to store so many rows. An error changes nothing but the room.
@@ -144,6 +183,7 @@ impl IndexSets {
         ensures rules { rules_of self.new ≡ rules_of self.old }
         ensures next { self.new.next ≡ row.position + 1 }
         ensures spare { spare_of self.old ≤ spare_of self.new + 1 }
+        ensures rows { (all : List Row) → StandsFor self.old all → IsGoneOn (rules_of self.old) row self.old.rows self.new.rows }
     {
         self.next = row.position + 1;
         enter_all(&mut self.sets, &mut self.rows, &row);
@@ -163,6 +203,30 @@ fn list_all(sets: &[IndexSet], alloc: Global) -> Result<Items<(Text, u64)>, Allo
         set.list(alloc, &mut found)?;
     }
     Ok(found)
+}
+
+// Takes the sets of this name out that have no rows.
+fn drop_unused(sets: &mut Vec<IndexSet>, name: &str)
+    ensures { sets.new.items ≡ filter (λ set. not (bytes_eq name.now set.rule.name && set.newest.rows == 0)) sets.old.items }
+{
+    sets.retain(|set| !set.is_unused(name));
+}
+
+// The row at a position.
+fn row_at(rows: &Shelf, position: u64) -> Option<&Row>
+    requires { AreRising rows.now.rows }
+    ensures { MatchOption result (has_position rows.now.rows position ≡ false) (λ row. (row.now.position ≡ position) × Contains rows.now.rows row.now) }
+{
+    let n = first_from(rows, position);
+    if n == rows.len() {
+        return None;
+    }
+    let row = rows.get(n);
+    if row.position == position {
+        Some(row)
+    } else {
+        None
+    }
 }
 
 // Whether one of these sets has this name.

@@ -20,4 +20,5 @@ pub mod Lawful
 pub mod Polishing
 pub mod Speaking
 pub mod Requiring
+pub mod Gathering
 pub mod Rows

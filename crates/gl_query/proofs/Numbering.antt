@@ -6,7 +6,8 @@ use Rattle.std.specs.Fmt.{decimal, signed_decimal}
 use Rattle.std.specs.Char.{is_ascii_digit}
 use lib.Signed.{mag}
 use Rattle.gl_query.specs.Tokens.{ends_word}
-use Rattle.gl_query.specs.Words.{magnitude_from, signed_number, number_of, bound_of, is_any_run, some_bound}
+use Rattle.gl_base.specs.Digits.{digits_within, magnitude_from, signed_number}
+use Rattle.gl_query.specs.Words.{number_of, bound_of, is_any_run, some_bound}
 use Rattle.gl_query.specs.Printing.{is_keyword}
 use Rattle.gl_query.proofs.Spelling.{Runs, runs_append, byte_runs, opens_word, keyword_cases, bytes_same}
 
@@ -14,7 +15,7 @@ small_digit : (r : ℕ) → r < 10 → is_ascii_digit (48 + r) ≡ true
 small_digit r lt = grind (arith, nat_tests)
 
 digit_step : (k r v : ℕ) → r < 10 → k * 10 + r ≡ v → v ≤ 2 ^ 63 → magnitude_from k ((48 + r) ∷ []) ≡ Some v
-unfolding magnitude_from
+unfolding digits_within
 digit_step k r v lt e le =
     let n = k * 10 + (48 + r - 48) in
     let same : n ≡ v = omega (arith, e) in
@@ -26,7 +27,7 @@ digit_step k r v lt e le =
     at_most v le = grind (arith, nat_tests)
 
 magnitude_append : (ds es : List ℕ) (k m : ℕ) → magnitude_from k ds ≡ Some m → magnitude_from k (ds ++ es) ≡ magnitude_from m es
-unfolding magnitude_from
+unfolding digits_within
 magnitude_append [] es k m h = let same : k ≡ m = cc h in ap (λ n. magnitude_from n es) same
 magnitude_append (d ∷ ds) es k m h =
     let n = k * 10 + (d - 48) in
@@ -160,7 +161,7 @@ number_word (negsuc n) lt =
 
 -- a number that was read is in 64 bits
 magnitude_small : (ds : List ℕ) (k n : ℕ) → k ≤ 2 ^ 63 → magnitude_from k ds ≡ Some n → n ≤ 2 ^ 63
-unfolding magnitude_from
+unfolding digits_within
 magnitude_small [] k n le h = let same : k ≡ n = cc h in omega (arith, le, same)
 magnitude_small (d ∷ ds) k n le h =
     let m = k * 10 + (d - 48) in

@@ -11,9 +11,9 @@ use Rattle.std.specs.List.{list_all, list_any}
 use Rattle.std.specs.Str.{bytes_eq}
 use Rattle.gl_fields.specs.Fields.{value_of}
 use Rattle.gl_fields.specs.declared.field.Field.{Field}
-use Rattle.gl_fields.specs.declared.field.Value.{Value}
-use Rattle.gl_fields.specs.declared.field.Value.TheVariants.{Whole}
-use Rattle.gl_fields.specs.declared.field.Value.TheVariants as value
+use Rattle.gl_fields.specs.declared.value.Value.{Value}
+use Rattle.gl_fields.specs.declared.value.Value.TheVariants.{Whole}
+use Rattle.gl_fields.specs.declared.value.Value.TheVariants as value
 use Rattle.gl_query.specs.declared.term.Term.{Term}
 use Rattle.gl_query.specs.declared.term.Term.TheVariants.{All as Everything, Exists, Text, Pattern, Within}
 use Rattle.gl_query.specs.Matching.{says, holds_of, term_holds, holds, all_hold}

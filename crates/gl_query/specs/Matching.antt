@@ -3,9 +3,9 @@ use Rattle.std.specs.Prelude.{ℕ, Bool, true, false, not, ◌||◌, ◌&&◌, �
 use Rattle.std.specs.Fmt.{signed_decimal}
 use Rattle.std.specs.Str.{bytes_eq}
 use Rattle.gl_fields.specs.declared.field.Field.{Field}
-use Rattle.gl_fields.specs.declared.field.Value.{Value}
-use Rattle.gl_fields.specs.declared.field.Value.TheVariants.{Whole}
-use Rattle.gl_fields.specs.declared.field.Value.TheVariants as value
+use Rattle.gl_fields.specs.declared.value.Value.{Value}
+use Rattle.gl_fields.specs.declared.value.Value.TheVariants.{Whole}
+use Rattle.gl_fields.specs.declared.value.Value.TheVariants as value
 use Rattle.gl_fields.specs.Fields.{value_of}
 use Rattle.gl_query.specs.declared.term.Piece.{Piece}
 use Rattle.gl_query.specs.declared.term.Limit.{Limit}

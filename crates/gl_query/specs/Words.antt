@@ -1,8 +1,8 @@
 -- What a word and a phrase of a query say (this project).
-use Rattle.std.specs.Prelude.{ℕ, ◌+◌, ◌-◌, ◌*◌, ◌^◌, ◌==◌, Bool, true, false, not, ◌&&◌, List, [], ◌∷◌, ◌++◌, length, drop, slice_index, nat_lt, nat_le, ℤ, pos, neg_ℤ, Option, Some, None, if◌then◌else◌, codes}
-use Rattle.std.specs.Char.{is_ascii_digit}
+use Rattle.std.specs.Prelude.{ℕ, ◌==◌, Bool, true, false, not, ◌&&◌, List, [], ◌∷◌, ◌++◌, length, drop, slice_index, nat_lt, ℤ, Option, Some, None, if◌then◌else◌, codes}
 use Rattle.std.specs.List.{list_any}
 use Rattle.std.specs.Str.{bytes_eq}
+use Rattle.gl_base.specs.Digits.{magnitude_from, signed_number}
 use Rattle.gl_query.specs.declared.token.Comparison.{Comparison}
 use Rattle.gl_query.specs.declared.token.Comparison.TheVariants.{Above, AtLeast, Below, AtMost}
 use Rattle.gl_query.specs.declared.token.Edge.{Edge}
@@ -43,16 +43,6 @@ wildcard_term None word = if is_any_run word then All else Pattern None (pieces 
 -- what a word asks of a field, or of the three that are tried without one
 abbrev pub word_term : Option (List ℕ) → List ℕ → Term
 word_term field word = if list_any is_wildcard (pieces false word) then wildcard_term field word else Text field (plain false word)
-
--- The number that these digits write, counted on from n. There is none above 2 ^ 63.
-unfoldable pub magnitude_from : ℕ → List ℕ → Option ℕ
-magnitude_from n [] = Some n
-magnitude_from n (d ∷ ds) = if is_ascii_digit d && nat_le (n * 10 + (d - 48)) (2 ^ 63) then magnitude_from (n * 10 + (d - 48)) ds else None
-
-abbrev pub signed_number : (negative : Bool) → Option ℕ → Option ℤ
-signed_number negative None = None
-signed_number true (Some n) = Some (neg_ℤ (pos n))
-signed_number false (Some n) = if nat_lt n (2 ^ 63) then Some (pos n) else None
 
 -- the number that a word is: decimal digits, with `-` before them where it is negative, in 64 bits
 abbrev pub number_of : List ℕ → Option ℤ

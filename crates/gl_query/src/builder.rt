@@ -16,7 +16,7 @@ use std::alloc::{AllocError, Global};
 const MAX_NESTING: usize = 64;
 
 /// What stands inside one pair of parentheses so far.
-#[derive(Clone, Copy, Debug)]
+#[derive(Clone, Copy)]
 pub struct Level {
     /// How many NOT stand before the next operand.
     negations: usize,
@@ -29,7 +29,7 @@ pub struct Level {
 }
 
 /// The nodes so far in Polish notation.
-#[derive(Debug, Drop)]
+#[derive(Drop)]
 pub struct Builder {
     level: Level,
     outer: Vec<Level>,

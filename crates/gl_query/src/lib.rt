@@ -9,7 +9,8 @@
 //! `matches` says whether that tree holds of a map of fields (`specs/Matching`, over the tokens of a text
 //! in `specs/Texts` and wildcards in `specs/Patterns`). It takes no memory, and time as the texts that it
 //! looks at times the query. A message of which a query holds has each of the query's required terms
-//! (`specs/Required`, by `law_required_terms`).
+//! (`specs/Required`, by `law_required_terms`), which `Query::required` lends. `next_token` walks over the
+//! tokens of a text as `matches` does.
 #![tactic(auto)]
 
 mod builder;
@@ -23,8 +24,6 @@ mod read;
 mod required;
 mod step;
 mod term;
-#[cfg(test)]
-mod tests;
 mod texts;
 mod token;
 mod word;
@@ -33,6 +32,7 @@ pub use matching::matches;
 pub use print::print_query;
 pub use query::{Query, QueryRefusal};
 pub use read::{MAX_QUERY, law_one_tree, read_query};
-pub use required::law_required_terms;
+pub use required::{RequiredTerm, in_lower_case, law_required_terms};
 pub use term::{Limit, Node, Piece, Term};
+pub use texts::next_token;
 pub use token::{Comparison, Edge, Token};

@@ -254,6 +254,7 @@ fn push_members<'a>(
 /// each comparison a range.
 pub fn print_query(alloc: Global, query: &Query) -> Result<String, AllocError>
     ensures text { IfOk result (λ text. (t : Tree) × (query.now ≡ polish t) × (string_bytes text ≡ tree_text t)) }
+    ensures only { IfOk result (λ text. (t : Tree) → query.now ≡ polish t → string_bytes text ≡ tree_text t) }
     // It reads back to the same query, where it nests to 64.
     ensures reads_back { IfOk result (λ text. (t : Tree) → query.now ≡ polish t → depth t ≤ 64 → IsQuery (units (tokens_of (string_bytes text))) t) }
 {

@@ -1,15 +1,18 @@
-ghost use Rattle.std.specs.Prelude.{◌≡◌, IfOk};
+ghost use Rattle.std.specs.Prelude.{◌≡◌};
 ghost use Rattle.gl_query.specs.Tree.{Tree, polish};
 ghost use Rattle.gl_query.specs.Reading.{IsRead};
+ghost use Rattle.gl_query.specs.Required.{AreRequired, required, terms_of};
 
+use crate::required::RequiredTerm;
 use crate::term::Node;
 use std::alloc::AllocError;
 use std::marker::Model;
 
 /// A query, which `read_query` alone makes. It is seen as the nodes of its tree in Polish notation.
-#[derive(Debug, Drop)]
+#[derive(Drop)]
 pub struct Query {
     nodes: Vec<Node>,
+    required: Vec<RequiredTerm>,
 }
 
 impl Model for Query {
@@ -21,8 +24,9 @@ impl Model for Query {
     ghost view = { λ q. q.nodes.items };
 
     ghost use Rattle.gl_query.specs.Reading.{IsRead};
+    ghost use Rattle.gl_query.specs.Required.{AreRequired};
 
-    ghost invariant = { λ q. IsRead q.nodes.items };
+    ghost invariant = { λ q. IsRead q.nodes.items × AreRequired q.required.items q.nodes.items };
 }
 
 /// Why a text isn't read.
@@ -44,11 +48,20 @@ impl From<AllocError> for QueryRefusal {
 }
 
 impl Query {
-    pub(crate) fn from_nodes(nodes: Vec<Node>) -> Query
-        requires { IsRead nodes.items }
+    pub(crate) fn from_nodes(nodes: Vec<Node>, required: Vec<RequiredTerm>) -> Query
+        requires read { IsRead nodes.items }
+        requires required { AreRequired required.items nodes.items }
         ensures { result ≡ nodes.items }
     {
-        Query { nodes }
+        Query { nodes, required }
+    }
+
+    /// The terms that a message must have for the query to hold of it, in the order of the query. It
+    /// takes no memory.
+    pub fn required(&self) -> &[RequiredTerm]
+        ensures { (t : Tree) → self.now ≡ polish t → terms_of result.now ≡ required t }
+    {
+        self.required.as_slice()
     }
 
     /// The nodes of its tree in Polish notation.

@@ -13,6 +13,7 @@ ghost use Rattle.gl_query.specs.Reading.{position_of, built_from, units, ended, 
 use crate::builder::{Builder, is_operator};
 use crate::lexer::{byte_at, token_at};
 use crate::query::{Query, QueryRefusal};
+use crate::required::required_terms;
 use crate::step::{Want, step_of};
 use crate::term::Node;
 use std::alloc::{AllocError, Global};
@@ -93,7 +94,10 @@ pub fn read_query(alloc: Global, text: &str) -> Result<Query, QueryRefusal>
     ensures refused { IfErr result (λ e. e ≢ OutOfMemory → TellsRefusal e (refusal_of text.now)) }
 {
     match read_nodes(alloc, text.as_bytes()) {
-        Ok(nodes) => Ok(Query::from_nodes(nodes)),
+        Ok(nodes) => {
+            let required = required_terms(alloc, nodes.as_slice())?;
+            Ok(Query::from_nodes(nodes, required))
+        }
         Err(refusal) => Err(refusal),
     }
 }

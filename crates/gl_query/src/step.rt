@@ -9,7 +9,7 @@ use gl_base::Items;
 use std::alloc::{AllocError, Global};
 
 /// What may come next.
-#[derive(Debug, Drop)]
+#[derive(Drop)]
 pub enum Want {
     /// An operand, or the end: nothing has come.
     Start,
@@ -33,7 +33,7 @@ pub enum Want {
 }
 
 /// What a token does.
-#[derive(Debug, Drop)]
+#[derive(Drop)]
 pub enum Step {
     /// It can't stand here.
     Refused,

@@ -1,7 +1,7 @@
 use gl_base::Items;
 
 /// A unit of a word with wildcards.
-#[derive(Clone, Copy, Debug, PartialEq, Eq)]
+#[derive(Clone, Copy)]
 pub enum Piece {
     /// This byte, in either case of an ASCII letter.
     Byte(u8),
@@ -12,7 +12,7 @@ pub enum Piece {
 }
 
 /// An end of a range.
-#[derive(Clone, Copy, Debug, PartialEq, Eq)]
+#[derive(Clone, Copy)]
 pub enum Limit {
     Unbounded,
     Included(i64),
@@ -20,7 +20,7 @@ pub enum Limit {
 }
 
 /// What a query asks of one field, or of `message`, `full_message` and `source`.
-#[derive(Debug, Drop)]
+#[derive(Drop)]
 pub enum Term {
     /// Holds of every message.
     All,
@@ -35,7 +35,7 @@ pub enum Term {
 }
 
 /// A node of a query's tree in Polish notation: an operation stands before its members.
-#[derive(Debug, Drop)]
+#[derive(Drop)]
 pub enum Node {
     Leaf(Term),
     /// The member behind it doesn't hold.

@@ -43,8 +43,10 @@ fn token_len(text: &[u8]) -> usize
     text.len()
 }
 
-/// The first token of a text, and what stands behind it.
-pub(crate) fn next_token(text: &[u8]) -> Option<(&[u8], &[u8])>
+/// The first token of a text as it stands, and what stands behind it; `None` behind the last token.
+///
+/// Called on what stands behind again and again it gives the text's tokens. It takes no memory.
+pub fn next_token(text: &[u8]) -> Option<(&[u8], &[u8])>
     ensures { MatchOption result (text_tokens text.now ≡ []) (λ r. TokenAhead text.now r.0.now r.1.now) }
 {
     let gap = gap_len(text);

@@ -1,7 +1,7 @@
 use gl_base::Items;
 
 /// How a number is compared.
-#[derive(Clone, Copy, Debug, PartialEq, Eq)]
+#[derive(Clone, Copy)]
 pub enum Comparison {
     Above,
     AtLeast,
@@ -10,14 +10,14 @@ pub enum Comparison {
 }
 
 /// Whether a range has the number that bounds it: `[` and `]` include it, `{` and `}` exclude it.
-#[derive(Clone, Copy, Debug, PartialEq, Eq)]
+#[derive(Clone, Copy)]
 pub enum Edge {
     Including,
     Excluding,
 }
 
 /// A unit of a query's text.
-#[derive(Debug, Drop)]
+#[derive(Drop)]
 pub enum Token {
     /// A word as it stands, with its backslashes.
     Word(Items<u8>),

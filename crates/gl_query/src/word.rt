@@ -1,17 +1,14 @@
 // What a word and a phrase of a query say.
 ghost use Rattle.std.specs.Prelude.{◌≡◌, ◌==◌, ◌<◌, ◌≤◌, ◌^◌, length, not, ◌&&◌, false, IfOk, IfSome};
-ghost use Rattle.std.specs.Char.{is_ascii_digit};
 ghost use Rattle.std.specs.List.{list_any};
-ghost use Rattle.gl_query.specs.Words.{plain, piece_of, pieces, is_wildcard, is_any_run, word_term, magnitude_from, signed_number, number_of, bound_of, limit_of, comparison_term};
+ghost use Rattle.gl_query.specs.Words.{plain, piece_of, pieces, is_wildcard, is_any_run, word_term, number_of, bound_of, limit_of, comparison_term};
 
 use crate::lexer::{byte_at, is_escape};
 use crate::term::{Limit, Piece, Term};
 use crate::token::{Comparison, Edge};
 use gl_base::Items;
+use gl_base::whole::{magnitude, signed_number};
 use std::alloc::{AllocError, Global};
-
-// The greatest number of 64 bits with a sign, and one more.
-const MAX_MAGNITUDE: u128 = 0x8000_0000_0000_0000;
 
 /// A word or a phrase without the backslashes that take a byte as it is.
 #[tactic(auto, using(crate::proofs::Wording::plain_skips, crate::proofs::Wording::plain_goes, crate::proofs::Wording::plain_over))]
@@ -105,47 +102,6 @@ pub(crate) fn word_term(
             Ok(Term::Pattern(None, pattern))
         }
     }
-}
-
-fn is_digit(b: u8) -> bool
-    ensures { result ≡ is_ascii_digit b }
-{
-    b.is_ascii_digit()
-}
-
-// The number that digits write, none where it has more than 63 bits and isn't the first such.
-#[tactic(auto, using(crate::proofs::Wording::magnitude_ends, crate::proofs::Wording::magnitude_passes, crate::proofs::Wording::magnitude_goes, crate::proofs::Wording::magnitude_over))]
-fn magnitude(digits: &[u8]) -> Option<u64>
-    ensures value { result ≡ magnitude_from 0 digits.now }
-    ensures small { IfSome result (λ n. n ≤ 2 ^ 63) }
-{
-    let mut n = 0u64;
-    for d in digits {
-        if !is_digit(*d) {
-            return None;
-        }
-        let next = u128::from(n) * 10 + u128::from(*d - b'0');
-        if next > MAX_MAGNITUDE {
-            return None;
-        }
-        n = next as u64;
-    }
-    Some(n)
-}
-
-fn signed_number(negative: bool, magnitude: Option<u64>) -> Option<i64>
-    requires { IfSome magnitude (λ n. n ≤ 2 ^ 63) }
-    ensures { result ≡ signed_number negative magnitude }
-{
-    let n = magnitude?;
-    if negative {
-        let number = -i128::from(n);
-        return Some(number as i64);
-    }
-    if n < 0x8000_0000_0000_0000 {
-        return Some(n as i64);
-    }
-    None
 }
 
 /// The number that a word is.

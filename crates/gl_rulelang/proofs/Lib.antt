@@ -1,4 +1,5 @@
 pub mod Accepted
+pub mod Alike
 pub mod Cuts
 pub mod Ends
 pub mod Escapes
@@ -7,6 +8,7 @@ pub mod Lexing
 pub mod Numbers
 pub mod PipelineBack
 pub mod PipelineForms
+pub mod Places
 pub mod Quoting
 pub mod RoundTrip
 pub mod RuleForms

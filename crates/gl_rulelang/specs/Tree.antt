@@ -1,5 +1,5 @@
 -- A rule as a plain value: texts by their bytes, boxes by their content, vectors by their items.
-use Rattle.std.specs.Prelude.{ℕ, suc, max, ℤ, Bool, true, false, List, [], ◌∷◌, map, Option}
+use Rattle.std.specs.Prelude.{ℕ, suc, max, ℤ, Bool, true, false, List, [], ◌∷◌, map, Option, Some, None}
 use Rattle.gl_rulelang.specs.declared.rule.Unary.{Unary}
 use Rattle.gl_rulelang.specs.declared.rule.Binary.{Binary}
 use Rattle.gl_rulelang.specs.declared.rule.Expr.{Expr}
@@ -61,6 +61,19 @@ abbrev pub is_operation : Tree → Bool
 is_operation (unary sign e) = true
 is_operation (binary sign a b) = true
 is_operation _ = false
+
+-- what an operation on one operand, one on two, and a call are made of
+abbrev pub unary_parts : Tree → Option (Unary × Tree)
+unary_parts (unary sign e) = Some (sign, e)
+unary_parts _ = None
+
+abbrev pub binary_parts : Tree → Option (Binary × Tree × Tree)
+binary_parts (binary sign a b) = Some (sign, a, b)
+binary_parts _ = None
+
+abbrev pub call_parts : Tree → Option (List ℕ × Arguments)
+call_parts (call name given) = Some (name, given)
+call_parts _ = None
 
 -- how many expressions stand inside one another at most: a name or a text is one
 abbrev mutual

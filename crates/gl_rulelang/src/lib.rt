@@ -14,6 +14,7 @@
 //! Reading takes a time that grows with the length of the text, and a stack that doesn't grow with it.
 #![tactic(auto)]
 
+mod copy;
 mod cut;
 mod expression;
 mod front;
@@ -25,9 +26,8 @@ mod print;
 mod read;
 mod refusal;
 mod rule;
+mod same;
 mod stages;
-#[cfg(test)]
-mod tests;
 mod text;
 mod token;
 

@@ -30,5 +30,6 @@ returns c =
     let text : (t : Tree) → c.args.query.now ≡ polish t → string_bytes c.in-Ok.text ≡ tree_text t = λ t e. bytes ∙ prints_whole c.new-text.result.items c.push_node.new.out.items _ c.as_slice.result.now c.new-text.ensures.items c.in_ok-push_node.ensures.text t (c.as_slice.ensures.nodes ∙ e) in
     record {
       text = (r.tree, r.nodes_are, text r.tree r.nodes_are);
+      only = text;
       reads_back = λ t e le. subst (λ x. IsQuery (lex x) t) (sym (text t e)) (reads_back t (spoken c.args.query.now r t e) le);
     }

@@ -1,7 +1,7 @@
 use Rattle.std.proofs.Common.{◌≡◌, ℕ, List, length, map, unwrap_or, Option, refl, sym, ◌∙◌, ap, subst, arith}
 use Rattle.std.specs.List.{insert, position, position_or_len}
 use Rattle.gl_fields.specs.Fields.{comes_before}
-use Rattle.gl_indexset.specs.declared.row.SetRule.{SetRule}
+use Rattle.gl_fields.specs.declared.set_rule.SetRule.{SetRule}
 use Rattle.gl_indexset.specs.Inside.{kept_of}
 use Rattle.gl_indexset.specs.Retention.{with_rule}
 use Rattle.gl_indexset.specs.SetKept.{SetKept}

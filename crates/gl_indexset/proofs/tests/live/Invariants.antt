@@ -1,4 +1,0 @@
-use Rattle.gl_indexset.proofs.tests.live.Given as goal
-
-abbrev pub ghosts-live_from : goal.ghosts-live_from
-ghosts-live_from a = record { name = a.blank.name; parts = a.blank.parts }

@@ -1,5 +1,0 @@
-use Rattle.gl_indexset.specs.Kept.{AreKnown, rules_of}
-use Rattle.gl_indexset.proofs.tests.names.Given as goal
-
-abbrev pub invariant-loop-name : goal.invariant-loop-name
-invariant-loop-name l = AreKnown (rules_of l.all) l.found
