@@ -1,4 +1,8 @@
 mod Decimals
+mod Exchanging
+mod HeadFields
+mod HeadParts
+mod LineFeeds
 mod Printables
 mod Stripped
 mod Whole

@@ -7,7 +7,7 @@ use Rattle.httparse.specs.declared.spans.HeaderSpan.{HeaderSpan}
 use Rattle.httparse.specs.declared.spans.RequestSpans.{RequestSpans}
 use Rattle.gl_http.specs.Front.{BeginsWith, HasNoHead}
 
-begins : (buf : List ℕ) (headers : List HeaderSpan) (r : RequestSpans) (h : RequestHead) → length headers ≤ 64 → IsRequestAt buf headers r h → BeginsWith buf h
+pub begins : (buf : List ℕ) (headers : List HeaderSpan) (r : RequestSpans) (h : RequestHead) → length headers ≤ 64 → IsRequestAt buf headers r h → BeginsWith buf h
 begins buf headers r h few at =
     let same = ap length at.fields in
     let left = length-map (take r.headers headers) (header_bytes buf) in

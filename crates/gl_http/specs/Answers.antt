@@ -19,6 +19,7 @@ status_of refusal.MethodNotAllowed = 405
 status_of refusal.TransferCoding = 501
 status_of refusal.LengthRequired = 411
 status_of refusal.BodyTooLong = 413
+status_of refusal.Truncated = 400
 
 abbrev pub name_of : Refusal → List ℕ
 name_of refusal.HeadTooLong = codes "HeadTooLong"
@@ -28,6 +29,7 @@ name_of refusal.MethodNotAllowed = codes "MethodNotAllowed"
 name_of refusal.TransferCoding = codes "TransferCoding"
 name_of refusal.LengthRequired = codes "LengthRequired"
 name_of refusal.BodyTooLong = codes "BodyTooLong"
+name_of refusal.Truncated = codes "Truncated"
 
 -- the body's length: a POST states it, and it is at most 1,048,576 bytes
 abbrev pub body_length : Bool → Option ℕ → Result ℕ Refusal

@@ -6,6 +6,10 @@ use Rattle.http.specs.StatusCode.{reason_phrase, IsStatusCode}
 abbrev pub HasPhrase : ℕ → Type 0
 HasPhrase status = IsStatusCode status × IsSome (reason_phrase status)
 
+-- the statuses of all replies
+abbrev pub statuses : List ℕ
+statuses = 200 ∷ 202 ∷ 400 ∷ 401 ∷ 403 ∷ 404 ∷ 405 ∷ 409 ∷ 411 ∷ 413 ∷ 422 ∷ 431 ∷ 500 ∷ 501 ∷ 503 ∷ 507 ∷ []
+
 -- an end of line
 abbrev pub crlf : List ℕ
 crlf = 13 ∷ 10 ∷ []

@@ -1,5 +1,5 @@
 // Reading the head of a request.
-ghost use Rattle.std.specs.Prelude.{◌≡◌, ◌≢◌, ◌≤◌, ◌<◌, ◌⊎◌, ℕ, List, IfOk, Ok, All, length, map, take};
+ghost use Rattle.std.specs.Prelude.{◌≡◌, ◌≢◌, ◌-◌, ◌≤◌, ◌<◌, ◌⊎◌, ℕ, List, IfOk, Ok, Some, All, length, map, take, slice_get};
 ghost use Rattle.httparse.specs.Grammar.{RequestHead, HasNoRequest, MayBecomeRequest};
 ghost use Rattle.httparse.specs.Spans.{IsHeaderWithin, IsRequestWithin, IsRequestOf, IsRequestAt, header_bytes};
 ghost use Rattle.gl_http.specs.Answers as answers;
@@ -132,7 +132,7 @@ fn answer_at(
     requires few { length headers.now ≤ 64 }
     ensures answer { (h : RequestHead) → IsRequestAt buf.now headers.now spans h → IfOk result (λ a. a ≡ answers.answer_of h) }
     ensures within { IfOk result (λ a. answers.IfHead a (λ h. (h.bytes ≤ length buf.now) × (h.length ≤ 1048576))) }
-    ensures begins { (h : RequestHead) × BeginsWith buf.now h }
+    ensures begins { (h : RequestHead) × BeginsWith buf.now h × IfOk result (λ a. a ≡ answers.answer_of h) }
     ensures done { IfOk result (λ a. a ≢ answer.More) }
 {
     let method = spans.method.of(buf);
@@ -174,7 +174,7 @@ fn headless(len: usize, unread: HeadAnswer) -> HeadAnswer
 
 /// Reads the head at the front of all that a client sent so far (RFC 9112, sections 2 to 6).
 /// A head that is whole within the first 16,384 bytes and has at most 64 fields is answered, whatever follows it.
-/// `Err` is want of memory.
+/// A head ends with a line feed, so a reader that goes on byte by byte asks behind line feeds alone. `Err` is want of memory.
 pub fn read_head(alloc: Global, bytes: &[u8]) -> Result<HeadAnswer, AllocError>
     ensures whole { (h : RequestHead) → BeginsWith (front bytes.now) h → IfOk result (λ a. a ≡ answers.answer_of h) }
     ensures shown { IfOk result (λ a. ((h : RequestHead) × BeginsWith (front bytes.now) h) ⊎ HasNoHead (front bytes.now)) }
@@ -183,6 +183,7 @@ pub fn read_head(alloc: Global, bytes: &[u8]) -> Result<HeadAnswer, AllocError>
     ensures more { IfOk result (λ a. a ≡ answer.More → (length bytes.now ≤ 16384) × HasNoRequest (front bytes.now) × MayBecomeRequest (front bytes.now)) }
     ensures within { IfOk result (λ a. answers.IfHead a (λ h. (h.bytes ≤ length bytes.now) × (h.length ≤ 1048576))) }
     ensures asks { length bytes.now ≤ 16384 → HasNoRequest (front bytes.now) → MayBecomeHead (front bytes.now) → IfOk result (λ a. a ≡ answer.More) }
+    ensures ends { IfOk result (λ a. answers.IfHead a (λ h. slice_get bytes.now (h.bytes - 1) ≡ Some 10)) }
 {
     let front = front(bytes);
     let mut headers = [EMPTY_HEADER_SPAN; 64];

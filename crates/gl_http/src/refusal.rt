@@ -1,8 +1,13 @@
-// Why a head is refused.
-ghost use Rattle.std.specs.Prelude.{◌≡◌};
+// Why a request is refused.
+ghost use Rattle.std.specs.Prelude.{◌≡◌, IfOk};
 ghost use Rattle.gl_http.specs.Answers.{status_of, name_of};
+ghost use Rattle.gl_http.specs.Refusals.{reply_to};
 
-/// Why a request is refused by its head alone, in the order in which the causes decide.
+use crate::reply::Reply;
+use gl_base::Items;
+use std::alloc::{AllocError, Global};
+
+/// Why a request is refused by its head alone, in the order in which the causes decide; and last, by a body that is cut short.
 #[derive(Clone, Copy, Debug)]
 pub enum Refusal {
     /// More than 16,384 bytes came, and no prefix of the first 16,384 is a head of at most 64 fields.
@@ -19,6 +24,8 @@ pub enum Refusal {
     LengthRequired,
     /// The body has more than 1,048,576 bytes.
     BodyTooLong,
+    /// The client ended before the body that the head tells of was whole. `read_head` never answers it.
+    Truncated,
 }
 
 impl Refusal {
@@ -34,6 +41,7 @@ impl Refusal {
             Refusal::TransferCoding => 501,
             Refusal::LengthRequired => 411,
             Refusal::BodyTooLong => 413,
+            Refusal::Truncated => 400,
         }
     }
 
@@ -49,6 +57,18 @@ impl Refusal {
             Refusal::TransferCoding => "TransferCoding",
             Refusal::LengthRequired => "LengthRequired",
             Refusal::BodyTooLong => "BodyTooLong",
+            Refusal::Truncated => "Truncated",
         }
+    }
+    /// The reply to it: its status, and the body `{"error":NAME}`.
+    pub fn reply(self, alloc: Global) -> Result<Reply, AllocError>
+        ensures { IfOk result (λ reply. reply ≡ reply_to self) }
+    {
+        let name = self.name();
+        let body = format!(in alloc; "{{\"error\":\"{name}\"}}")?;
+        Ok(Reply {
+            status: self.status(),
+            body: Items::from_vec(body.into_bytes()),
+        })
     }
 }

@@ -1,8 +1,8 @@
 // Replies to a client.
-ghost use Rattle.std.specs.Prelude.{◌≡◌, ◌++◌, IfOk, OnOk, OnErr, Some, codes, length};
+ghost use Rattle.std.specs.Prelude.{◌≡◌, ◌++◌, IfOk, OnOk, OnErr, Some, All, codes, length};
 ghost use Rattle.std.specs.String.{string_bytes};
 ghost use Rattle.http.specs.StatusCode.{reason_phrase};
-ghost use Rattle.gl_http.specs.ReplyBytes.{HasPhrase, head_bytes, reply_bytes};
+ghost use Rattle.gl_http.specs.ReplyBytes.{HasPhrase, head_bytes, reply_bytes, statuses};
 
 use gl_base::Items;
 use http::StatusCode;
@@ -65,3 +65,8 @@ pub fn memory_reply() -> &'static [u8]
 {
     b"HTTP/1.1 500 Internal Server Error\r\nContent-Type: application/json\r\nContent-Length: 23\r\nConnection: close\r\n\r\n{\"error\":\"OutOfMemory\"}"
 }
+
+/// Law: the status of each reply has a canonical phrase, as `write_reply` asks.
+pub fn law_statuses_have_phrases()
+    ensures { All HasPhrase statuses }
+{}
