@@ -7,9 +7,9 @@ use Rattle.std.proofs.lemmas.List.{drop_at}
 use Rattle.gl_fields.specs.declared.entry.Entry.{Entry}
 use Rattle.gl_fields.specs.declared.entry.Outcome.{Outcome}
 use Rattle.gl_fields.specs.declared.input_kind.InputKind.{InputKind}
-use Rattle.gl_gelf.specs.declared.chunks.Chunked.{Chunked}
-use Rattle.gl_gelf.specs.declared.chunks.Chunked.TheVariants as chunk
-use Rattle.gl_gelf.specs.Chunks.{chunk_answer}
+use Rattle.gl_chunks.specs.declared.chunks.Chunked.{Chunked}
+use Rattle.gl_chunks.specs.declared.chunks.Chunked.TheVariants as chunk
+use Rattle.gl_chunks.specs.Chunks.{chunk_answer}
 use Rattle.gl_node.specs.declared.answer.Arrival.{Arrival}
 use Rattle.gl_node.specs.declared.answer.Arrival.TheVariants.{Journalled, Empty, Held as IsHeld, Repeat, BadChunk, CountMismatch, ChunkTableFull, FrameTooLong, UnknownInput, JournalFull}
 use Rattle.gl_node.specs.Arrivals.{added_by, arrival_events, arrival_of, datagram_events, datagram_of, events_by, is_tabled, next_entry, sent_to}

@@ -4,13 +4,15 @@ use Rattle.std.specs.List.{list_all, join_with_byte}
 use Rattle.std.specs.Option.{option_map, option_and_then}
 use Rattle.std.specs.Int.{is_in_range}
 use Rattle.std.specs.Str.{bytes_eq}
-use Rattle.std.proofs.Common.{refl, subst, arith}
-use Rattle.std.proofs.lemmas.Bool.{false≢true}
+use Rattle.std.proofs.Common.{refl, subst, arith, cond, leb, ◌+◌, ◌*◌}
+use Rattle.std.proofs.lemmas.Bool.{false≢true, leb-true}
 use Rattle.std.proofs.lemmas.Bool.Decides.{nat_tests}
 use Rattle.percent_encoding.specs.Percent.{percent_decode}
+use Rattle.gl_base.specs.Bytes.{is_digit}
+use Rattle.gl_base.specs.Digits.{digits_within}
 use Rattle.gl_cli.specs.declared.line.Line.{Line}
 use Rattle.gl_cli.specs.declared.line.Line.TheVariants.{Blank, At, Udp, Tcp, End, Claim, Finish, Listing}
-use Rattle.gl_cli.specs.Script.{is_number, digits_value, number_in, is_name, last_moment, workers, words_of, at_line, udp_line, connection_in, tcp_line, end_line, claim_line, finish_line, list_line, line_of_words, is_blank, line_of, moment_in}
+use Rattle.gl_cli.specs.Script.{is_plain, at_least, number_in, is_name, last_moment, workers, words_of, at_line, udp_line, connection_in, tcp_line, end_line, claim_line, finish_line, list_line, line_of_words, is_blank, line_of, moment_in}
 use Rattle.gl_cli.specs.Sessions.{IsFit}
 
 abbrev IfFit : Option Line → Type 0
@@ -20,14 +22,30 @@ if_fits : (b : Bool) (x y : Option Line) → IfFit x → IfFit y → IfFit (if b
 if_fits true x y p q = p
 if_fits false x y p q = q
 
-if_number : (a b c : Bool) (n least most : ℕ) → (b ≡ true → least ≤ n) → (c ≡ true → n ≤ most) → IfSome (if (a && b) && c then Some n else None) (λ (m : ℕ). (least ≤ m) × (m ≤ most))
-if_number true true true n least most p q = (p refl, q refl)
-if_number true true false n least most p q = tt
-if_number true false c n least most p q = tt
-if_number false b c n least most p q = tt
+chosen : (a b : Bool) (r : Option ℕ) (P : ℕ → Type 0) → (b ≡ true → IfSome r P) → IfSome (cond (a && b) r None) P
+chosen true true r P f = f refl
+chosen true false r P f = tt
+chosen false b r P f = tt
+
+-- what digits write within a bound is within it
+digits_few : (most n : ℕ) (ds : List ℕ) → n ≤ most → IfSome (digits_within most n ds) (λ m. m ≤ most)
+unfolding digits_within
+digits_few most n [] le = le
+digits_few most n (d ∷ ds) le =
+    let m : ℕ = n * 10 + (d - 48) in
+    chosen (is_digit d) (leb m most) (digits_within most m ds) (λ k. k ≤ most) (λ e. digits_few most m ds (leb-true m most e))
+
+if_number : (a : Bool) (o : Option ℕ) (least most : ℕ) → IfSome o (λ (n : ℕ). n ≤ most) → IfSome (if a then at_least least o else None) (λ (n : ℕ). (least ≤ n) × (n ≤ most))
+if_number false o least most few = tt
+if_number true None least most few = tt
+if_number true (Some n) least most few = high (nat_le least n) (λ e. grind (arith, nat_tests))
+  where
+    high : (b : Bool) → (b ≡ true → least ≤ n) → IfSome (if b then Some n else None) (λ (m : ℕ). (least ≤ m) × (m ≤ most))
+    high true low = (low refl, few)
+    high false low = tt
 
 number_fits : (least most : ℕ) (text : List ℕ) → IfSome (number_in least most text) (λ (n : ℕ). (least ≤ n) × (n ≤ most))
-number_fits least most text = if_number (is_number text) (nat_le least (digits_value text)) (nat_le (digits_value text) most) (digits_value text) least most (λ e. grind (arith, nat_tests)) (λ e. grind (arith, nat_tests))
+number_fits least most text = if_number (is_plain text) (digits_within most 0 text) least most (digits_few most 0 text (omega arith))
 
 map_fits : (o : Option ℕ) (f : ℕ → Line) (P : ℕ → Type 0) → IfSome o P → ((n : ℕ) → P n → IsFit (f n)) → IfFit (option_map f o)
 map_fits None f P p k = tt

@@ -2,8 +2,8 @@
 use Rattle.std.specs.Prelude.{◌≡◌, ℕ, Bool, true, false, List, [], ◌∷◌, ◌++◌, Option, Some, None, codes, nat_le, length, if◌then◌else◌}
 use Rattle.std.proofs.Common.{refl, ◌∙◌, ap, sym, subst}
 use Rattle.std.specs.Io.KnownBytes.{Appends}
-use Rattle.gl_gelf.specs.Frames.{is_too_long, parts_of}
-use Rattle.gl_syslog.specs.LineFraming.{has_count}
+use Rattle.gl_lines.specs.ZeroFraming.{is_too_long, parts_of}
+use Rattle.gl_lines.specs.LineFraming.{has_count}
 use Rattle.gl_fields.specs.declared.input_kind.InputKind.{InputKind}
 use Rattle.gl_fields.specs.declared.input_kind.InputKind.TheVariants.{Raw, Gelf, Syslog}
 use Rattle.gl_outside.specs.Disk.{Image, DiskState, Tells}

@@ -8,13 +8,13 @@ use Rattle.gl_base.specs.declared.fed.Fed.{Fed}
 use Rattle.gl_base.specs.declared.fed.Fed.TheVariants.{Nothing, Whole, TooLong, Closed}
 use Rattle.gl_fields.specs.declared.input_kind.InputKind.{InputKind}
 use Rattle.gl_fields.specs.declared.input_kind.InputKind.TheVariants.{Raw, Gelf, Syslog}
-use Rattle.gl_gelf.specs.declared.frames.ZeroFrames.{ZeroFrames}
-use Rattle.gl_gelf.specs.Frames.{frames_of, is_too_long, parts_of}
-use Rattle.gl_gelf.specs.Taking as zeros
-use Rattle.gl_syslog.specs.LineFraming.{Framed, has_count}
-use Rattle.gl_syslog.specs.LineFraming as framing
-use Rattle.gl_syslog.specs.LineFrames.{line_frames, has_long_line, isnt_empty, last_line_frame, last_of_rest}
-use Rattle.gl_syslog.specs.Reader.{ReaderView, StandsFor, IsAnswer, IsLast, told}
+use Rattle.gl_lines.specs.ZeroReader.{ZeroView}
+use Rattle.gl_lines.specs.ZeroFraming.{frames_of, is_too_long, parts_of}
+use Rattle.gl_lines.specs.ZeroReader as zeros
+use Rattle.gl_lines.specs.LineFraming.{Framed, has_count}
+use Rattle.gl_lines.specs.LineFraming as framing
+use Rattle.gl_lines.specs.LineFrames.{line_frames, has_long_line, isnt_empty, last_line_frame, last_of_rest}
+use Rattle.gl_lines.specs.Reader.{ReaderView, StandsFor, IsAnswer, IsLast, told}
 use Rattle.gl_cli.specs.declared.frames.Frames.{Frames}
 use Rattle.gl_cli.specs.declared.frames.Frames.TheVariants.{Zero, Lines}
 use Rattle.gl_cli.specs.Connections.{ended_frames, is_closed, last_frame}
@@ -29,7 +29,7 @@ begins_open Syslog = refl
 
 -- ---- parts between zero bytes
 
-pub zero_stands : (kind : InputKind) (z : ZeroFrames) (bytes : List ℕ) → FramesStand kind (Zero z) bytes → zeros.Stands z bytes
+pub zero_stands : (kind : InputKind) (z : ZeroView) (bytes : List ℕ) → FramesStand kind (Zero z) bytes → zeros.Stands z bytes
 zero_stands Gelf z bytes stands = stands
 zero_stands Raw z bytes stands = absurd stands
 zero_stands Syslog z bytes stands = absurd stands
@@ -44,11 +44,11 @@ zero_feeds TooLong frame given piece n f =
     (f.0, ap (λ (p : List ℕ). frames_of (given ++ p)) all ∙ f.3, ap (λ (p : List ℕ). is_too_long (given ++ p)) all ∙ f.2)
 zero_feeds Closed frame given piece n f = f.1
 
-pub zero_took : (kind : InputKind) (old new : ZeroFrames) (bytes piece : List ℕ) (n : ℕ) (fed : Fed)
+pub zero_took : (kind : InputKind) (old new : ZeroView) (bytes piece : List ℕ) (n : ℕ) (fed : Fed)
     → ((given : List ℕ) → zeros.Stands old given → zeros.Takes new given piece n fed)
-    → FramesStand kind (Zero old) bytes → Took fed kind bytes piece n (zeros.frame_of new) × FramesStand kind (Zero new) (bytes ++ take n piece)
+    → FramesStand kind (Zero old) bytes → Took fed kind bytes piece n (new.frame) × FramesStand kind (Zero new) (bytes ++ take n piece)
 zero_took Gelf old new bytes piece n fed takes stands =
-    let t = takes bytes stands in (zero_feeds fed (zeros.frame_of new) bytes piece n t.feeds, t.stands)
+    let t = takes bytes stands in (zero_feeds fed (new.frame) bytes piece n t.feeds, t.stands)
 zero_took Raw old new bytes piece n fed takes stands = absurd stands
 zero_took Syslog old new bytes piece n fed takes stands = absurd stands
 
@@ -58,18 +58,18 @@ fed_within Whole frame given piece n f = f.1
 fed_within TooLong frame given piece n f = omega (arith, f.0)
 fed_within Closed frame given piece n f = omega (arith, f.0)
 
-pub zero_within : (kind : InputKind) (old new : ZeroFrames) (bytes piece : List ℕ) (n : ℕ) (fed : Fed)
+pub zero_within : (kind : InputKind) (old new : ZeroView) (bytes piece : List ℕ) (n : ℕ) (fed : Fed)
     → ((given : List ℕ) → zeros.Stands old given → zeros.Takes new given piece n fed) → FramesStand kind (Zero old) bytes → n ≤ length piece
 zero_within kind old new bytes piece n fed takes stands =
-    fed_within fed (zeros.frame_of new) bytes piece n (takes bytes (zero_stands kind old bytes stands)).feeds
+    fed_within fed (new.frame) bytes piece n (takes bytes (zero_stands kind old bytes stands)).feeds
 
-zero_last : (fed : Fed) (z : ZeroFrames) (given frame : List ℕ) → zeros.Ends fed z given → Ended fed [] frame
+zero_last : (fed : Fed) (z : ZeroView) (given frame : List ℕ) → zeros.IsEnd fed z given → Ended fed [] frame
 zero_last Nothing z given frame e = refl
 zero_last Whole z given frame e = absurd e
 zero_last TooLong z given frame e = refl
 zero_last Closed z given frame e = refl
 
-pub zero_ended : (kind : InputKind) (old new : ZeroFrames) (bytes frame : List ℕ) (fed : Fed) → ((given : List ℕ) → zeros.Stands old given → zeros.Ends fed new given)
+pub zero_ended : (kind : InputKind) (old new : ZeroView) (bytes frame : List ℕ) (fed : Fed) → ((given : List ℕ) → zeros.Stands old given → zeros.IsEnd fed new given)
     → FramesStand kind (Zero old) bytes → Ended fed (last_frame kind bytes) frame
 zero_ended Gelf old new bytes frame fed ends stands = zero_last fed new bytes frame (ends bytes stands)
 zero_ended Raw old new bytes frame fed ends stands = absurd stands
@@ -153,7 +153,7 @@ module _ (frames_are : FramesAre) (closed_is : ClosedIs) (counts : Bool) (reader
 
 lines_by : (frames_are : FramesAre) (closed_is : ClosedIs) (counts : Bool) (old new : ReaderView) (bytes piece : List ℕ) (n : ℕ) (fed : Fed)
     → (was : LinesStand counts old bytes) (now : LinesStand counts new (bytes ++ take n piece)) → now.1.0 ≡ was.1.0 ++ told fed (length bytes + n) new.frame
-    → IsAnswer fed old new n (length piece) → TookBy fed (line_frames counts) (has_long_line counts) bytes piece n new.frame
+    → IsAnswer fed old.rest new.rest new.frame n (length piece) → TookBy fed (line_frames counts) (has_long_line counts) bytes piece n new.frame
 lines_by frames_are closed_is counts old new bytes piece n Nothing was now e answer = (
   answer.2,
   sym (line_texts frames_are closed_is counts new (bytes ++ take n piece) now) ∙ ap texts (e ∙ append-nil was.1.0) ∙ line_texts frames_are closed_is counts old bytes was,
@@ -180,7 +180,7 @@ TakesLines old new piece n fed = (bytes : List ℕ) (frames : List (ℕ × List 
     → StandsFor new (bytes ++ take n piece) (frames ++ told fed (length bytes + n) new.frame)
 
 module _ (frames_are : FramesAre) (closed_is : ClosedIs) (old new : ReaderView) (bytes piece : List ℕ) (n : ℕ) (fed : Fed) (same : new.counts ≡ old.counts)
-    (takes : TakesLines old new piece n fed) (answer : IsAnswer fed old new n (length piece)) where
+    (takes : TakesLines old new piece n fed) (answer : IsAnswer fed old.rest new.rest new.frame n (length piece)) where
   stand_on : (counts : Bool) → LinesStand counts old bytes → LinesStand counts new (bytes ++ take n piece)
   stand_on counts was = (same ∙ was.0, (was.1.0 ++ told fed (length bytes + n) new.frame, takes bytes was.1.0 was.1.1))
 
@@ -196,16 +196,16 @@ module _ (frames_are : FramesAre) (closed_is : ClosedIs) (old new : ReaderView) 
 -- ---- the end of lines
 
 last_ended : (last : List ℕ) (fed : Fed) (frame : List ℕ) → IsLast last fed frame → Ended fed (filter isnt_empty (last ∷ [])) frame
-last_ended [] fed frame e = subst (λ (f : Fed). Ended f [] frame) (sym e) refl
+last_ended [] fed frame e = subst (λ (f : Fed). Ended f [] frame) (sym e.0) refl
 last_ended (b ∷ last) fed frame e =
     subst (λ (f : Fed). Ended f ((b ∷ last) ∷ []) frame) (sym e.0) (ap (λ (t : List ℕ). t ∷ []) (sym e.1))
 
 -- what a call says of the last frame
 abbrev pub EndsLines : ReaderView → ReaderView → Fed → Type 0
-EndsLines old new fed = MatchOption old.rest ((fed ≡ Closed) × (new.rest ≡ None)) (λ rest. (new.rest ≡ Some []) × IsLast (framing.last_frame old.counts rest) fed new.frame)
+EndsLines old new fed = MatchOption old.rest ((fed ≡ Closed) × (new.rest ≡ None) × (new.frame ≡ [])) (λ rest. (new.rest ≡ Some []) × IsLast (framing.last_frame old.counts rest) fed new.frame)
 
 rest_ended : (counts : Bool) (rest after : Option (List ℕ)) (fed : Fed) (frame : List ℕ)
-    → MatchOption rest ((fed ≡ Closed) × (after ≡ None)) (λ r. (after ≡ Some []) × IsLast (framing.last_frame counts r) fed frame) → Ended fed (last_of_rest counts rest) frame
+    → MatchOption rest ((fed ≡ Closed) × (after ≡ None) × (frame ≡ [])) (λ r. (after ≡ Some []) × IsLast (framing.last_frame counts r) fed frame) → Ended fed (last_of_rest counts rest) frame
 rest_ended counts None after fed frame e = subst (λ (f : Fed). Ended f [] frame) (sym e.0) refl
 rest_ended counts (Some rest) after fed frame e = last_ended (framing.last_frame counts rest) fed frame e.1
 

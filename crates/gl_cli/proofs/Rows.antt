@@ -7,12 +7,13 @@ use Rattle.std.specs.Str.Lossy.{utf8_lossy, utf8_valid_len}
 use Rattle.std.specs.Str.{is_utf8, chars}
 use lib.Utf8.{encode}
 use Rattle.percent_encoding.specs.Percent.{percent_decode, percent_encode_byte}
+use Rattle.gl_base.specs.Digits.{digits_within}
 use Rattle.gl_node.specs.State.{Base, opened}
 use Rattle.gl_node.specs.declared.node.Options.{Options}
 use Rattle.gl_cli.specs.declared.line.Line.{Line}
 use Rattle.gl_cli.specs.declared.line.Line.TheVariants.{Udp, Claim, Finish}
-use Rattle.gl_gelf.specs.Frames.{frames_of, is_too_long, parts_of}
-use Rattle.gl_syslog.specs.LineFraming.{behind_count, count, has_count}
+use Rattle.gl_lines.specs.ZeroFraming.{frames_of, is_too_long, parts_of}
+use Rattle.gl_lines.specs.LineFraming.{behind_count, count, has_count}
 use Rattle.gl_cli.specs.Words.{default_options}
 use Rattle.gl_cli.specs.Runs.{turns_of, all_text, output, answers}
 use Rattle.gl_cli.specs.Script.{bad_line, script_lines}
@@ -46,7 +47,7 @@ pub one_datagram :
     output empty [] (lines_text (codes "at 1000" ∷ codes "udp raw 10.0.0.7 hello" ∷ codes "claim 0 10" ∷ codes "finish 0" ∷ codes "list" ∷ []))
     ≡ lines_text (codes "journalled 0" ∷ codes "claimed 0 0 1" ∷ codes "committed 1" ∷ codes "journal 1 committed 1"
     ∷ codes "0 stored 000000000000000000000001 message=hello&source=10.0.0.7&timestamp:1000" ∷ codes "done 1 1" ∷ [])
-unfolding digits utf8_lossy utf8_valid_len is_utf8 chars encode percent_decode
+unfolding digits digits_within utf8_lossy utf8_valid_len is_utf8 chars encode percent_decode
 one_datagram = refl
 
 -- several workers
@@ -67,11 +68,12 @@ small = record empty { journal_limit = 4096; index_limit = 4096 }
 pub refusals : answers small [] (lines_text (codes "udp raw p " ∷ codes "udp nope p x" ∷ (codes "udp raw 10.0.0.7 " ++ replicate 5000 97) ∷ codes "udp raw p %41%zz 5%" ∷ codes "claim 0 9" ∷ codes "finish 0" ∷ codes "list" ∷ []))
     ≡ lines_text (codes "empty" ∷ codes "unknown-input" ∷ codes "journal-full 25 4096" ∷ codes "journalled 0" ∷ codes "claimed 0 0 1" ∷ codes "committed 1"
     ∷ codes "journal 1 committed 1" ∷ codes "0 stored 000000000000000000000001 message=A%25zz%205%25&source=p&timestamp:0" ∷ [])
-unfolding digits utf8_lossy utf8_valid_len is_utf8 chars encode percent_decode percent_encode_byte
+unfolding digits digits_within utf8_lossy utf8_valid_len is_utf8 chars encode percent_decode percent_encode_byte
 refusals = refl
 
 -- the first line that isn't of the form
 pub bad_third : bad_line (script_lines (lines_text (codes "# a remark" ∷ codes "" ∷ codes "claim 64 1" ∷ codes "list" ∷ []))) ≡ Some 3
+unfolding digits_within
 bad_third = refl
 
 pub bad_zero : bad_line (script_lines (codes "at 007")) ≡ Some 1
@@ -87,12 +89,12 @@ pub one_connection :
     ≡ lines_text (codes "journalled 0" ∷ codes "journalled 1" ∷ codes "unknown-input" ∷ codes "journalled 2" ∷ codes "claimed 0 0 3" ∷ codes "committed 3" ∷ codes "journal 3 committed 3"
     ∷ codes "0 stored 000000000000000000000001 message=a&source=p&timestamp:0" ∷ codes "1 stored 000000000000000000000001 message=bc&source=q&timestamp:0"
     ∷ codes "2 stored 000000000000000000000001 message=d&source=q&timestamp:0" ∷ [])
-unfolding digits utf8_lossy utf8_valid_len is_utf8 chars encode percent_decode percent_encode_byte
+unfolding digits digits_within utf8_lossy utf8_valid_len is_utf8 chars encode percent_decode percent_encode_byte
 one_connection = refl
 
 -- counted frames of a syslog connection, and parts between zero bytes of a gelf one, whose rest is dropped at its end
 pub other_connections :
     answers empty [] (lines_text (codes "tcp syslog 0 p 3 abc2 d" ∷ codes "tcp syslog 0 p e" ∷ codes "tcp gelf 0 p a%00b" ∷ codes "end gelf 0" ∷ codes "end syslog 0" ∷ codes "list" ∷ []))
     ≡ lines_text (codes "journalled 0" ∷ codes "journalled 1" ∷ codes "journalled 2" ∷ codes "journal 3 committed 0" ∷ [])
-unfolding digits utf8_lossy utf8_valid_len is_utf8 chars encode percent_decode percent_encode_byte has_count count behind_count frames_of is_too_long parts_of
+unfolding digits digits_within utf8_lossy utf8_valid_len is_utf8 chars encode percent_decode percent_encode_byte has_count count behind_count frames_of is_too_long parts_of
 other_connections = refl

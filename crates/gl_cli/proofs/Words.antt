@@ -9,7 +9,7 @@ use Rattle.std.proofs.lemmas.List.{take-append-drop}
 use Rattle.std.proofs.lemmas.List.Splits.{slice_split_none, slice_split_at, join_with_byte-slice_split, length-slice_split}
 use Rattle.std.proofs.lemmas.List.Sums.{fold-append}
 use Rattle.std.proofs.Math.Seq.{drop-cons}
-use Rattle.gl_cli.specs.Script.{words_of, digits_value, is_number, number_in, at_line, udp_line, connection_in, tcp_line, end_line, claim_line, finish_line, list_line, is_name}
+use Rattle.gl_cli.specs.Script.{words_of, number_in, at_line, udp_line, connection_in, tcp_line, end_line, claim_line, finish_line, list_line, is_name}
 use Rattle.gl_cli.specs.declared.line.Line.{Line}
 use Rattle.gl_cli.specs.declared.line.Line.TheVariants.{Udp, Tcp}
 use Rattle.percent_encoding.specs.Percent.{percent_decode}
@@ -41,35 +41,6 @@ words_of-at text place h =
 
 pub words_of-none : (text : List ℕ) → All (λ b. b ≢ 32) text → words_of text ≡ text ∷ []
 words_of-none text h = slice_split_none (λ b. b == 32) text (is_byte_not 32 text h)
-
--- a word more makes a number no smaller
-pub digits_value-more : (n : ℕ) (text : List ℕ) → n ≤ fold (λ m digit. 10 * m + (digit - 48)) n text
-digits_value-more n [] = omega arith
-digits_value-more n (digit ∷ text) = omega (arith, digits_value-more (10 * n + (digit - 48)) text)
-
-pub digits_value-push : (text : List ℕ) (digit : ℕ) → digits_value (text ++ digit ∷ []) ≡ 10 * digits_value text + (digit - 48)
-digits_value-push text digit = fold-append (λ m d. 10 * m + (d - 48)) 0 text (digit ∷ [])
-
-pub digits_value-append : (text more : List ℕ) → digits_value text ≤ digits_value (text ++ more)
-digits_value-append text more = rw (fold-append (λ m d. 10 * m + (d - 48)) 0 text more) (digits_value-more (digits_value text) more)
-
-pub digits_value-over : (text : List ℕ) (i : ℕ) → i < length text → 10 * digits_value (take i text) + (get_or text i 0 - 48) ≤ digits_value text
-digits_value-over text i h =
-    let e : take (i + 1) text ≡ take i text ++ get_or text i 0 ∷ [] = grind (arith, common_steps) in
-    let p : digits_value (take (i + 1) text) ≡ 10 * digits_value (take i text) + (get_or text i 0 - 48)
-    = ap digits_value e ∙ digits_value-push (take i text) (get_or text i 0) in
-    let q : digits_value (take (i + 1) text) ≤ digits_value text
-    = subst (λ (t : List ℕ). digits_value (take (i + 1) text) ≤ digits_value t) (take-append-drop (i + 1) text) (digits_value-append (take (i + 1) text) (drop (i + 1) text)) in
-    omega (arith, p, q)
-
-pub and_false : (b : Bool) (x : Option ℕ) → (if b && false then x else None) ≡ None
-and_false true x = refl
-and_false false x = refl
-
-pub number_in-large : (least most : ℕ) (text : List ℕ) → most < digits_value text → None ≡ number_in least most text
-number_in-large least most text h = sym
-    (ap (λ c. if (is_number text && nat_le least (digits_value text)) && c then Some (digits_value text) else None) (lt-leb (digits_value text) most h)
-    ∙ and_false (is_number text && nat_le least (digits_value text)) (Some (digits_value text)))
 
 pub words_of-some : (text : List ℕ) → 0 < length (words_of text)
 words_of-some text = rw (length-slice_split (λ b. b == 32) text) (omega arith)

@@ -3,9 +3,9 @@ use Rattle.std.specs.Prelude.{ℕ, Bool, true, false, List, [], ◌∷◌, ◌++
 use Rattle.std.specs.List.{fold}
 use Rattle.gl_fields.specs.declared.entry.Entry.{Entry}
 use Rattle.gl_fields.specs.declared.input_kind.InputKind.{InputKind}
-use Rattle.gl_gelf.specs.declared.chunks.Chunked.{Chunked}
-use Rattle.gl_gelf.specs.declared.chunks.Chunked.TheVariants as chunk
-use Rattle.gl_gelf.specs.Chunks.{chunk_answer}
+use Rattle.gl_chunks.specs.declared.chunks.Chunked.{Chunked}
+use Rattle.gl_chunks.specs.declared.chunks.Chunked.TheVariants as chunk
+use Rattle.gl_chunks.specs.Chunks.{chunk_answer}
 use Rattle.gl_node.specs.declared.answer.Arrival.{Arrival}
 use Rattle.gl_node.specs.declared.answer.Arrival.TheVariants.{Journalled}
 use Rattle.gl_node.specs.Arrivals.{arrival_of, datagram_of, is_tabled, next_entry, sent_to}

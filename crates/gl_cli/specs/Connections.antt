@@ -3,8 +3,8 @@ use Rattle.std.specs.Prelude.{ℕ, Bool, true, false, not, ◌&&◌, List, [], �
 use Rattle.std.specs.Str.{bytes_eq}
 use Rattle.gl_fields.specs.declared.input_kind.InputKind.{InputKind}
 use Rattle.gl_fields.specs.declared.input_kind.InputKind.TheVariants.{Raw, Gelf, Syslog}
-use Rattle.gl_gelf.specs.Frames.{frames_of, is_too_long}
-use Rattle.gl_syslog.specs.LineFrames.{line_frames, has_long_line, last_line_frame}
+use Rattle.gl_lines.specs.ZeroFraming.{frames_of, is_too_long}
+use Rattle.gl_lines.specs.LineFrames.{line_frames, has_long_line, last_line_frame}
 
 pub record Connection : Type 0 where
   pub input : List ℕ

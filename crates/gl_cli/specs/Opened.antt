@@ -6,8 +6,8 @@ use Rattle.gl_base.specs.declared.fed.Fed.{Fed}
 use Rattle.gl_base.specs.declared.fed.Fed.TheVariants.{Nothing, Whole, TooLong, Closed}
 use Rattle.gl_fields.specs.declared.input_kind.InputKind.{InputKind}
 use Rattle.gl_fields.specs.declared.input_kind.InputKind.TheVariants.{Raw, Gelf, Syslog}
-use Rattle.gl_gelf.specs.Taking as zero
-use Rattle.gl_syslog.specs.Reader.{ReaderView, StandsFor}
+use Rattle.gl_lines.specs.ZeroReader as zero
+use Rattle.gl_lines.specs.Reader.{ReaderView, StandsFor}
 use Rattle.gl_cli.specs.declared.frames.Frames.{Frames}
 use Rattle.gl_cli.specs.declared.frames.Frames.TheVariants.{Zero, Lines}
 use Rattle.gl_cli.specs.declared.connections.Open.{Open}
@@ -26,7 +26,7 @@ FramesStand kind frames bytes = ⊥
 
 -- the frame that is lent
 abbrev pub frame_in : Frames → List ℕ
-frame_in (Zero z) = zero.frame_of z
+frame_in (Zero z) = z.frame
 frame_in (Lines reader) = reader.frame
 
 -- what is answered of a piece behind these bytes, of which so many were taken

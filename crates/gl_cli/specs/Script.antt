@@ -6,22 +6,21 @@ use Rattle.std.specs.Int.{is_in_range}
 use Rattle.std.specs.Str.{bytes_eq}
 use Rattle.std.specs.Char.{is_ascii_digit}
 use Rattle.percent_encoding.specs.Percent.{percent_decode}
+use Rattle.gl_base.specs.Digits.{digits_within}
 use Rattle.gl_cli.specs.declared.line.Line.{Line}
 use Rattle.gl_cli.specs.declared.line.Line.TheVariants.{Blank, At, Udp, Tcp, End, Claim, Finish, Listing}
 
--- a number in plain digits: without a sign, and with no zero before another digit
-abbrev pub digits_value : List ℕ → ℕ
-digits_value text = fold (λ n digit. 10 * n + (digit - 48)) 0 text
+-- plain digits have no zero before another digit
+abbrev pub is_plain : List ℕ → Bool
+is_plain text = nat_lt 1 (length text) && not (slice_index text 0 == 48) || length text == 1
 
-abbrev pub is_number : List ℕ → Bool
-is_number text = list_all is_ascii_digit text && (nat_lt 1 (length text) && not (slice_index text 0 == 48) || length text == 1)
+abbrev pub at_least : ℕ → Option ℕ → Option ℕ
+at_least least None = None
+at_least least (Some n) = if nat_le least n then Some n else None
 
--- the number that a word writes, where it is one from the first of these up to the second
+-- the number that a word writes in plain digits, without a sign, where it is one from the first of these up to the second
 abbrev pub number_in : ℕ → ℕ → List ℕ → Option ℕ
-number_in least most text =
-    if is_number text && nat_le least (digits_value text) && nat_le (digits_value text) most
-    then Some (digits_value text)
-    else None
+number_in least most text = if is_plain text then at_least least (digits_within most 0 text) else None
 
 -- so many bytes at most, and at least one, each printable and no space
 abbrev pub is_name : ℕ → List ℕ → Bool

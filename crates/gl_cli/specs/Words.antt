@@ -1,5 +1,5 @@
 -- The words of the command line.
-use Rattle.std.specs.Prelude.{ℕ, ◌^◌, Bool, not, List, [], ◌∷◌, ◌==◌, if◌then◌else◌, codes, slice_index}
+use Rattle.std.specs.Prelude.{ℕ, ◌^◌, Bool, false, not, length, List, [], ◌∷◌, ◌==◌, if◌then◌else◌, codes, slice_index}
 use Rattle.std.specs.Str.{bytes_eq}
 use Rattle.gl_node.specs.declared.node.Options.{Options}
 use Rattle.gl_cli.specs.declared.status.Command.{Command}
@@ -8,9 +8,9 @@ use Rattle.gl_cli.specs.declared.status.Command.TheVariants.{Session, Check, Usa
 abbrev pub default_options : Options
 default_options = record { segment = 67108864; journal_limit = 2 ^ 36; index_limit = 2 ^ 40 }
 
--- a store's name doesn't begin with `-`
+-- a store's name isn't empty, and doesn't begin with `-`
 abbrev pub is_store : List ℕ → Bool
-is_store word = not (slice_index word 0 == 45)
+is_store word = if (length word == 0) then false else not (slice_index word 0 == 45)
 
 -- what the words ask for: `session STORE` or `check STORE`, and nothing else yet
 abbrev pub command_on : List ℕ → List ℕ → Command

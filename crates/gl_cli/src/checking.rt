@@ -1,5 +1,5 @@
 // What `check` says of a store.
-ghost use Rattle.std.specs.Prelude.{◌≡◌, OnOk, OnErr, IfErr};
+ghost use Rattle.std.specs.Prelude.{OnOk, OnErr, IfErr};
 ghost use Rattle.std.specs.Io.KnownBytes.{Appends};
 ghost use Rattle.gl_base.specs.Counts.{HasCause};
 ghost use Rattle.gl_node.specs.Node.{Keeps};

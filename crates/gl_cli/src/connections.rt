@@ -1,5 +1,5 @@
 // The connections of a session.
-ghost use Rattle.std.specs.Prelude.{◌≡◌, ◌≤◌, ◌<◌, ◌++◌, ℕ, List, [], ◌∷◌, false, length, vec_capacity, nat_le, IfOk, MatchOption, All};
+ghost use Rattle.std.specs.Prelude.{◌≡◌, ◌≤◌, ◌<◌, [], false, length, nat_le, IfOk, MatchOption, All};
 ghost use Rattle.gl_cli.specs.Connections.{most_connections};
 ghost use Rattle.gl_cli.specs.Opened.{IsOpen, IsPlace, Stand, begun, is_named};
 

@@ -1,9 +1,9 @@
 // A node with the ranges that its workers are at.
-ghost use Rattle.std.specs.Prelude.{◌≡◌, ◌≢◌, ◌+◌, ◌<◌, ◌≤◌, ℕ, ◌++◌, length, take, vec_capacity, IfOk, IfErr, OnOk, OnErr, MatchOption, All};
+ghost use Rattle.std.specs.Prelude.{◌≡◌, ◌≢◌, ◌+◌, ◌<◌, ◌≤◌, ◌++◌, length, vec_capacity, IfOk, IfErr, OnOk, MatchOption, All};
 ghost use Rattle.gl_base.specs.Counts.{HasCause};
 ghost use Rattle.gl_outside.specs.Disk.{Tells, LeavesOnly};
 ghost use Rattle.gl_node.specs.Arrivals.{arrival_of, arrival_events, datagram_answer, datagram_events};
-ghost use Rattle.gl_node.specs.Calls.{claimed_of, finished_of};
+ghost use Rattle.gl_node.specs.Calls.{finished_of};
 ghost use Rattle.gl_node.specs.Claims.{claim_answer, claimed_by, finish_answer, finish_events};
 ghost use Rattle.gl_node.specs.Moments.{LeftBy};
 ghost use Rattle.gl_node.specs.Node.{IsRunning, Keeps, NodeOn, NodeReady, store_of};

@@ -6,8 +6,7 @@ ghost use Rattle.gl_cli.specs.Opened.{FramesStand, Took, Ended, frame_in};
 
 use gl_base::Fed;
 use gl_fields::InputKind;
-use gl_gelf::{ZeroFrames, law_frames_begin};
-use gl_syslog::{LineFrames, law_frames_of_bytes};
+use gl_lines::{LineFrames, ZeroFrames, law_frames_begin, law_frames_of_bytes};
 use std::alloc::{AllocError, Global};
 
 /// Cuts what a connection sends into frames, as the kind of its input asks: parts that zero bytes end, lines,

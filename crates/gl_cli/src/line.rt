@@ -1,7 +1,7 @@
 use gl_base::{Items, Text};
 
 /// A line of a script.
-#[derive(Debug, Drop)]
+#[derive(Drop)]
 pub enum Line {
     Blank,
     At {

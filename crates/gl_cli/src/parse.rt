@@ -1,4 +1,4 @@
-ghost use Rattle.std.specs.Prelude.{length, true, IfOk, ◌≡◌, ◌∷◌, [], ◌^◌, ◌<◌, ◌≤◌, ◌+◌, ◌-◌, ◌*◌, ◌≢◌, List, ℕ, MatchOption, All};
+ghost use Rattle.std.specs.Prelude.{length, true, IfOk, IfSome, ◌≡◌, ◌∷◌, ◌^◌, ◌<◌, ◌≤◌, ◌+◌, ◌-◌, ◌*◌, ◌≢◌, MatchOption, All};
 ghost use Rattle.std.specs.List.{list_all};
 ghost use Rattle.std.specs.Str.{bytes_eq};
 ghost use Rattle.std.specs.Int.{is_in_range};
@@ -7,7 +7,8 @@ ghost use Rattle.gl_cli.specs.Script as script;
 ghost use Rattle.gl_cli.specs.Parsing.{rest_words, IsFirstAt};
 
 use crate::line::Line;
-use gl_base::{Items, Text};
+use gl_base::{Items, Text, whole};
+use gl_fields::LAST_MOMENT;
 use percent_encoding::percent_decode;
 use std::alloc::{AllocError, Global};
 
@@ -28,37 +29,23 @@ fn split_word(text: &[u8]) -> (&[u8], Option<&[u8]>)
     }
 }
 
-/// The number with a digit more, where it fits.
-fn with_digit(value: u64, digit: u8) -> Option<u64>
-    requires { 48 ≤ digit }
-    ensures { MatchOption result (2 ^ 64 ≤ 10 * value + (digit - 48)) (λ more. more ≡ 10 * value + (digit - 48)) }
+/// Whether a word may be a number: no zero stands before another digit.
+fn is_plain(text: &[u8]) -> bool
+    ensures { result ≡ script.is_plain text.now }
 {
-    value.checked_mul(10)?.checked_add(u64::from(digit - b'0'))
+    text.len() > 1 && text[0] != b'0' || text.len() == 1
 }
 
 /// The number that a word writes, where it is in its range.
 fn number_in(text: &[u8], least: u64, most: u64) -> Option<u64>
-    ensures { result ≡ script.number_in least most text.now }
+    ensures value { result ≡ script.number_in least most text.now }
+    ensures few { IfSome result (λ n. n ≤ most) }
 {
-    let lone = text.len() == 1;
-    if text.is_empty() || (text[0] == b'0' && !lone) {
+    if !is_plain(text) {
         return None;
     }
-    let mut value: u64 = 0;
-    for b in text {
-        if !b.is_ascii_digit() {
-            return None;
-        }
-        match with_digit(value, *b) {
-            None => return None,
-            Some(more) => value = more,
-        }
-    }
-    if least <= value && value <= most {
-        Some(value)
-    } else {
-        None
-    }
+    let number = whole::digits_within(0, text, most)?;
+    if least <= number { Some(number) } else { None }
 }
 
 /// What the words behind `at` ask for.
@@ -68,7 +55,7 @@ fn at_line(rest: Option<&[u8]>) -> Option<Line>
     let (word, more) = split_word(rest?);
     match more {
         Some(_) => None,
-        None => match number_in(word, 0, 253_402_300_799_999) {
+        None => match number_in(word, 0, LAST_MOMENT) {
             Some(moment) => Some(Line::At { moment }),
             None => None,
         },
@@ -313,128 +300,4 @@ fn is_same(one: &[u8], other: &[u8]) -> bool
     ensures { result ≡ bytes_eq one.now other.now }
 {
     one == other
-}
-
-#[cfg(test)]
-mod tests {
-    use super::line_of;
-    use crate::line::Line;
-    use std::alloc::{AllocError, Global};
-    use std::test::*;
-
-    /// What a line asks for, in words.
-    fn shown(alloc: Global, text: &[u8]) -> Result<String, AllocError> {
-        match line_of(alloc, text)? {
-            None => format!(in alloc; "none"),
-            Some(Line::Blank) => format!(in alloc; "blank"),
-            Some(Line::At { moment }) => format!(in alloc; "at {moment}"),
-            Some(
-                Line::Udp {
-                    input,
-                    peer,
-                    payload,
-                },
-            ) => format!(in alloc;
-                "udp {} {} {:?}",
-                input.as_str(),
-                peer.as_str(),
-                payload.as_slice()
-            ),
-            Some(
-                Line::Tcp {
-                    input,
-                    number,
-                    peer,
-                    payload,
-                },
-            ) => format!(in alloc;
-                "tcp {} {number} {} {:?}",
-                input.as_str(),
-                peer.as_str(),
-                payload.as_slice()
-            ),
-            Some(Line::End { input, number }) => format!(in alloc;
-                "end {} {number}",
-                input.as_str()
-            ),
-            Some(Line::Claim { worker, limit }) => format!(in alloc; "claim {worker} {limit}"),
-            Some(Line::Finish { worker }) => format!(in alloc; "finish {worker}"),
-            Some(Line::Listing) => format!(in alloc; "list"),
-        }
-    }
-
-    #[test]
-    fn a_line_asks_for_what_its_words_say(rt: HostRuntime) -> Result<(), Fail> {
-        let alloc = rt.alloc();
-        for (text, want) in [
-            ("", "blank"),
-            ("# a remark", "blank"),
-            ("at 7", "at 7"),
-            ("at 0", "at 0"),
-            ("at 007", "none"),
-            ("at", "none"),
-            ("at ", "none"),
-            ("at 1 2", "none"),
-            ("at -1", "none"),
-            ("at +1", "none"),
-            ("at 253402300799999", "at 253402300799999"),
-            ("at 253402300800000", "none"),
-            ("at 18446744073709551617", "none"),
-            ("udp raw p x", "udp raw p [120]"),
-            ("udp raw p", "none"),
-            ("udp raw p ", "udp raw p []"),
-            ("udp raw p a  b ", "udp raw p [97, 32, 32, 98, 32]"),
-            ("udp raw p %41%4", "udp raw p [65, 37, 52]"),
-            ("udp raw p %", "udp raw p [37]"),
-            ("udp raw p x\r", "udp raw p [120, 13]"),
-            ("udp  p x", "none"),
-            ("udp raw \u{fc} x", "none"),
-            ("tcp raw 0 p x", "tcp raw 0 p [120]"),
-            ("tcp raw 4294967295 p ", "tcp raw 4294967295 p []"),
-            ("tcp raw 4294967296 p x", "none"),
-            ("tcp raw 01 p x", "none"),
-            ("tcp raw 1 p", "none"),
-            ("tcp raw 1  x", "none"),
-            ("tcp raw 1 p a  b%0A", "tcp raw 1 p [97, 32, 32, 98, 10]"),
-            ("end raw 7", "end raw 7"),
-            ("end raw", "none"),
-            ("end raw 7 ", "none"),
-            ("end raw 4294967296", "none"),
-            ("claim 0 256", "claim 0 256"),
-            ("claim 0 257", "none"),
-            ("claim 0 0", "none"),
-            ("claim 1 1", "none"),
-            ("claim 0", "none"),
-            ("claim 0 1 ", "none"),
-            ("finish 0", "finish 0"),
-            ("finish 1", "none"),
-            ("finish", "none"),
-            ("list", "list"),
-            ("list ", "none"),
-            ("list\r", "none"),
-            (" list", "none"),
-            ("LIST", "none"),
-        ] {
-            let got = shown(alloc, text.as_bytes())?;
-            assert!(rt; got.as_str() == want, "at `{text}`");
-        }
-        Ok(())
-    }
-
-    #[test]
-    fn a_name_has_a_greatest_length(rt: HostRuntime) -> Result<(), Fail> {
-        let alloc = rt.alloc();
-        for (input, peer, taken) in [(64, 255, true), (65, 255, false), (64, 256, false)] {
-            let mut text = Vec::from_slice(alloc, b"udp ")?;
-            text.extend_from_slice(&vec![in alloc; b'i'; input]?)?;
-            text.push(b' ')?;
-            text.extend_from_slice(&vec![in alloc; b'p'; peer]?)?;
-            text.extend_from_slice(b" x")?;
-            assert!(rt;
-                line_of(alloc, &text)?.is_some() == taken,
-                "at {input} {peer}"
-            );
-        }
-        Ok(())
-    }
 }

@@ -116,8 +116,8 @@ pub fn listed_text(alloc: Global, position: u64, outcome: &Outcome) -> Result<Ve
         Outcome::Stored { streams, fields } => stored_text(
             alloc,
             position,
-            streams.as_slice(),
-            fields.as_slice(),
+            streams.get().as_slice(),
+            fields.get().as_slice(),
         ),
         Outcome::Dropped => Ok(format!(in alloc; "{position} dropped\n")?.into_bytes()),
         Outcome::Undecodable(cause) => Ok(undecodable_text(alloc, position, cause)?.into_bytes()),
@@ -252,89 +252,5 @@ fn hex_digit(digit: u8) -> u8
         b'0' + digit
     } else {
         b'A' + (digit - 10)
-    }
-}
-
-#[cfg(test)]
-mod tests {
-    use super::{arrival_text, claim_text, finish_text, listed_text, stored_text};
-    use gl_base::Text;
-    use gl_fields::{Cause, Field, Outcome, Value};
-    use gl_node::{Arrival, Claimed, Finished, Mark};
-    use std::test::*;
-
-    #[test]
-    fn answers_are_lines(rt: HostRuntime) -> Result<(), Fail> {
-        let alloc = rt.alloc();
-        for (arrival, want) in [
-            (Arrival::Journalled { position: 0 }, "journalled 0\n"),
-            (Arrival::Empty, "empty\n"),
-            (Arrival::FrameTooLong, "frame-too-long\n"),
-            (Arrival::UnknownInput, "unknown-input\n"),
-            (
-                Arrival::JournalFull {
-                    bytes: 25,
-                    limit: 4096,
-                },
-                "journal-full 25 4096\n",
-            ),
-        ] {
-            assert!(rt; arrival_text(alloc, &arrival)?.as_str() == want);
-        }
-        for (finished, want) in [
-            (Finished::Committed(7), "committed 7\n"),
-            (Finished::Kept(0), "kept 0\n"),
-            (Finished::NoClaim, "no-claim\n"),
-            (
-                Finished::IndexFull { bytes: 1, limit: 2 },
-                "index-full 1 2\n",
-            ),
-        ] {
-            assert!(rt; finish_text(alloc, &finished)?.as_str() == want);
-        }
-        let busy = Claimed::Busy(Mark {
-            first: u64::MAX,
-            count: 1,
-        });
-        assert!(rt;
-            claim_text(alloc, 0, &busy)?.as_str()
-                == "busy 18446744073709551615 18446744073709551616\n"
-        );
-        assert!(rt; claim_text(alloc, 0, &Claimed::Nothing)?.as_str() == "nothing\n");
-        Ok(())
-    }
-
-    #[test]
-    fn entries_are_listed(rt: HostRuntime) -> Result<(), Fail> {
-        let alloc = rt.alloc();
-        for (outcome, want) in [
-            (Outcome::Applied, "3 applied\n"),
-            (Outcome::Dropped, "3 dropped\n"),
-            (
-                Outcome::Undecodable(Cause::NotJson { at: 12 }),
-                "3 undecodable not-json 12\n",
-            ),
-            (
-                Outcome::Undecodable(Cause::TooLarge),
-                "3 undecodable too-large\n",
-            ),
-        ] {
-            assert!(rt; listed_text(alloc, 3, &outcome)?.as_slice() == want.as_bytes());
-        }
-        let fields = [
-            Field {
-                name: Text::from_str(alloc, "message")?,
-                value: Value::Text(Text::from_str(alloc, "a b%&=~\u{fc}\n")?),
-            },
-            Field {
-                name: Text::from_str(alloc, "timestamp")?,
-                value: Value::Whole(-1000),
-            },
-        ];
-        let text = stored_text(alloc, 18, &[1, u64::MAX], &fields)?;
-        let want =
-            b"18 stored 000000000000000000000001,00000000ffffffffffffffff message=a%20b%25%26=~%C3%BC%0A&timestamp:-1000\n";
-        assert!(rt; text.as_slice() == want.as_slice());
-        Ok(())
     }
 }

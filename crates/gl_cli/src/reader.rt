@@ -13,7 +13,7 @@ use std::alloc::{AllocError, Global};
 const BLOCK: usize = 65_536;
 
 /// What a reading came to.
-#[derive(Debug, Drop)]
+#[derive(Drop)]
 pub enum Next {
     Line(Items<u8>),
     End,
@@ -129,84 +129,5 @@ impl LineReader {
                 Ok(Next::Line(line))
             }
         }
-    }
-}
-
-#[cfg(test)]
-mod tests {
-    use super::{LineReader, Next};
-    use gl_base::Items;
-    use gl_outside::{MemorySource, Outside};
-    use std::alloc::Global;
-    use std::test::*;
-
-    /// The lines of a text that a source gives in such pieces, and whether the text is too long.
-    fn read_all(
-        alloc: Global,
-        text: &[u8],
-        piece: usize,
-        budget: usize,
-    ) -> Result<(Vec<Items<u8>>, bool), Outside>
-        requires { budget < 2 ^ 63 }
-    {
-        let mut source = MemorySource::new(text, piece, &[]);
-        let mut reader = LineReader::new(alloc, budget);
-        let mut lines = Vec::new(alloc);
-        loop {
-            match reader.next_line(alloc, &mut source)? {
-                Next::Line(line) => lines.push(line)?,
-                Next::End => return Ok((lines, false)),
-                Next::TooLong => return Ok((lines, true)),
-            }
-        }
-    }
-
-    #[test]
-    fn lines_are_the_same_however_they_are_cut(rt: HostRuntime) -> Result<(), Fail> {
-        let alloc = rt.alloc();
-        let long = vec![in alloc; b'x'; 200_000]?;
-        let lines = [
-            b"at 1".as_slice(),
-            b"",
-            b"a\r",
-            long.as_slice(),
-            b"",
-            b"last",
-        ];
-        let mut text = Vec::new(alloc);
-        for line in lines {
-            text.extend_from_slice(line)?;
-            text.push(b'\n')?;
-        }
-        text.pop();
-        for piece in [1, 2, 3, 4096, 65_536, 1 << 20] {
-            let (got, too_long) = read_all(alloc, &text, piece, 200_100)?;
-            assert!(rt; !too_long && got.len() == lines.len(), "at {piece}");
-            for (line, want) in got.iter().zip(lines) {
-                assert!(rt; line.as_slice() == want, "at {piece}");
-            }
-        }
-        Ok(())
-    }
-
-    #[test]
-    fn a_text_is_read_within_its_budget(rt: HostRuntime) -> Result<(), Fail> {
-        let alloc = rt.alloc();
-        for (text, budget, count, too_long) in [
-            ("", 0, 0, false),
-            ("\n", 1, 1, false),
-            ("\n", 0, 0, true),
-            ("ab\ncd\n", 6, 2, false),
-            ("ab\ncd\n", 5, 1, true),
-            ("ab\ncd", 5, 2, false),
-            ("ab\ncd", 4, 1, true),
-        ] {
-            let (got, long) = read_all(alloc, text.as_bytes(), 1, budget)?;
-            assert!(rt;
-                got.len() == count && long == too_long,
-                "at {text:?} {budget}"
-            );
-        }
-        Ok(())
     }
 }

@@ -1,5 +1,5 @@
 // A session: the lines of a script, one after another.
-ghost use Rattle.std.specs.Prelude.{◌≡◌, ℕ, [], max, IfSome};
+ghost use Rattle.std.specs.Prelude.{◌≡◌, [], max, IfSome};
 ghost use Rattle.std.specs.Io.KnownBytes.{IsAtEnd};
 ghost use Rattle.gl_outside.specs.Disk.{Image, Tells, LeavesOnly};
 ghost use Rattle.gl_node.specs.Moments.{LeftBy};

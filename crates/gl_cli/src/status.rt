@@ -7,7 +7,7 @@ use gl_node::{Log, NodeFault, Options};
 use std::alloc::AllocError;
 
 /// What the words of the command line ask for.
-#[derive(Debug, Drop)]
+#[derive(Drop)]
 pub enum Command {
     /// Opens the store and runs a script.
     Session { store: Text, options: Options },

@@ -1,5 +1,5 @@
 // What the program does with its words.
-ghost use Rattle.std.specs.Prelude.{◌≡◌, ◌≢◌, ◌⊎◌, ℕ, List, [], Option, IfOk, IfSome, Ok};
+ghost use Rattle.std.specs.Prelude.{◌≡◌, ◌≢◌, ◌⊎◌, ℕ, List, [], IfOk, IfSome, Ok};
 ghost use Rattle.std.specs.Io.KnownBytes.{IsAtEnd, Keeps};
 ghost use Rattle.gl_outside.specs.Disk.{Image, IsUnchanged, LeavesOnly, Tells};
 ghost use Rattle.gl_gatelog.specs.declared.kind.Log.{Log};
@@ -22,7 +22,8 @@ use crate::session::session;
 use crate::status::{Command, Status};
 use gl_base::Text;
 use gl_node::{Node, OpenFault, Options, law_images_show_the_state};
-use gl_outside::{Disk, PatternShop, Sink, Source};
+use gl_outside::{Disk, Sink, Source};
+use gl_patterns::PatternShop;
 use std::alloc::{AllocError, Global};
 
 // The sizes of a store that the words don't say otherwise.
@@ -32,8 +33,8 @@ const DEFAULT_OPTIONS: Options = Options {
     index_limit: 1 << 40,
 };
 
-/// What the words of the command line ask for: `session STORE` or `check STORE`, where STORE doesn't begin with `-`.
-/// Any other words are `Usage`, which takes no memory.
+/// What the words of the command line ask for: `session STORE` or `check STORE`, where STORE isn't empty and doesn't begin
+/// with `-`. Any other words are `Usage`, which takes no memory.
 pub fn command_of(alloc: Global, words: &[Text]) -> Result<Command, AllocError>
     ensures command { IfOk result (λ command. command ≡ command_for words.now) }
     ensures usage { command_for words.now ≡ Command.Usage → result ≡ Ok Command.Usage }
@@ -42,6 +43,9 @@ pub fn command_of(alloc: Global, words: &[Text]) -> Result<Command, AllocError>
     let [word, store] = words else {
         return Ok(Command::Usage);
     };
+    if store.as_str().as_bytes().is_empty() {
+        return Ok(Command::Usage);
+    }
     if store.as_str().as_bytes().first() == Some(&b'-') {
         return Ok(Command::Usage);
     }

@@ -8,9 +8,9 @@ use Rattle.gl_base.proofs.Counting.{find_at_some}
 use Rattle.gl_outside.specs.Disk.{DiskState, LeavesOnly}
 use Rattle.gl_outside.proofs.Moments.{weaker}
 use Rattle.gl_fields.specs.declared.input_kind.InputKind.{InputKind}
-use Rattle.gl_gelf.specs.declared.chunks.Chunked.{Chunked}
-use Rattle.gl_gelf.specs.declared.chunks.Chunked.TheVariants as chunk
-use Rattle.gl_gelf.specs.Chunks.{chunk_answer}
+use Rattle.gl_chunks.specs.declared.chunks.Chunked.{Chunked}
+use Rattle.gl_chunks.specs.declared.chunks.Chunked.TheVariants as chunk
+use Rattle.gl_chunks.specs.Chunks.{chunk_answer}
 use Rattle.gl_node.specs.declared.answer.Arrival.{Arrival}
 use Rattle.gl_node.specs.declared.arriving.Taken.{Taken}
 use Rattle.gl_node.specs.declared.config.Config.{Config}

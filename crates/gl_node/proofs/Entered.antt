@@ -14,10 +14,11 @@ use Rattle.gl_gatelog.specs.View.{GateView, appended, has_long, refusal}
 use Rattle.gl_gatelog.specs.Stand.{StandsOn, IsReady, BeforeOrWith}
 use Rattle.gl_gatelog.proofs.Apart.{OnlyIn, other_area, other_stands}
 use Rattle.gl_gatelog.proofs.Chain.{end_within}
+use Rattle.gl_fields.specs.declared.entry.Origin.{Origin}
 use Rattle.gl_fields.specs.declared.entry.Entry.{Entry}
 use Rattle.gl_fields.specs.declared.entry.Entry.TheVariants.{Admin, Message}
 use Rattle.gl_fields.specs.declared.entry.Message.{Message as Payload}
-use Rattle.gl_fields.specs.Entries.{entry_bytes, version_after}
+use Rattle.gl_fields.specs.Entries.{front_bytes, entry_bytes, version_after}
 use Rattle.gl_fields.specs.Bounds.{IsPayload}
 use Rattle.gl_node.specs.declared.answer.Arrival.{Arrival}
 use Rattle.gl_node.specs.declared.answer.Arrival.TheVariants.{Journalled, JournalFull, UnknownInput, Empty, FrameTooLong}
@@ -33,8 +34,12 @@ use Rattle.gl_node.specs.State.{State, state_after, entry_batch, journal_size}
 use Rattle.gl_node.proofs.Adding.{keeps_added}
 use Rattle.gl_node.proofs.Appending.{records_with}
 
+length_front : (input peer : List ℕ) (origin : Option Origin) → length (front_bytes input peer origin) ≤ length input + length peer + 6
+length_front input peer None = simp length-append (omega arith)
+length_front input peer (Some origin) = simp length-append (omega arith)
+
 length_entry : (m : Payload) → IsPayload m → length (entry_bytes (Message m)) ≤ 2 ^ 22
-length_entry m is = simp length-append (omega (arith, is.input.few, is.peer.few, is.few))
+length_entry m is = simp length-append (omega (arith, length_front m.input m.peer m.origin, is.input.few, is.peer.few, is.few))
 
 -- an entry is short enough for a record
 pub is_short : (before : List Entry) (entry : Entry) → MayFollow before entry → has_long (entry_bytes entry ∷ []) ≡ false
@@ -162,13 +167,13 @@ weaker_ok (Err e) P Q more is = tt
 
 -- the same, by the message that the node makes of it
 module _ (node : Node) (m : Payload) (moment : ℕ) (input peer bytes : List ℕ)
-    (is : m ≡ record { input = input; peer = peer; moment = moment; version = node.config.version; bytes = bytes })
+    (is : m ≡ record { input = input; peer = peer; origin = None; moment = moment; version = node.config.version; bytes = bytes })
     (known : is_input node.config input ≡ true) (some : (length bytes == 0) ≡ false) (few : nat_lt 1048576 (length bytes) ≡ false) where
   module _ (s : State) (keeps : Keeps node s) where
     entry_is : Message m ≡ next_entry s.journal moment input peer bytes
     entry_is =
         let version : node.config.version ≡ version_after s.journal = ap (λ (config : Config). config.version) keeps.config in
-        ap (λ (p : Payload). Message p) is ∙ ap (λ (v : ℕ). Message (record { input = input; peer = peer; moment = moment; version = v; bytes = bytes })) version
+        ap (λ (p : Payload). Message p) is ∙ ap (λ (v : ℕ). Message (record { input = input; peer = peer; origin = None; moment = moment; version = v; bytes = bytes })) version
 
     arrival_is : arrival_of s moment input peer bytes ≡ entered s (next_entry s.journal moment input peer bytes)
     arrival_is = by_entering s moment input peer bytes (ap (λ (config : Config). is_input config input) (sym keeps.config) ∙ known) some few

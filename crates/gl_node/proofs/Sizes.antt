@@ -7,8 +7,8 @@ use Rattle.std.proofs.lemmas.List.Elements.{All-head, All-tail}
 use Rattle.std.proofs.lemmas.List.Sums.{sum_by-cons}
 use Rattle.gl_gatelog.specs.View.{has_long}
 use Rattle.gl_fields.specs.declared.field.Field.{Field}
-use Rattle.gl_fields.specs.declared.field.Value.{Value}
-use Rattle.gl_fields.specs.declared.field.Value.TheVariants.{Text, Whole}
+use Rattle.gl_fields.specs.declared.value.Value.{Value}
+use Rattle.gl_fields.specs.declared.value.Value.TheVariants.{Text, Whole}
 use Rattle.gl_fields.specs.declared.entry.Cause.{Cause}
 use Rattle.gl_fields.specs.declared.entry.Cause.TheVariants.{NotJson, TooDeep, Compressed, NoShortMessage, TooManyFields, TooLarge}
 use Rattle.gl_fields.specs.declared.entry.Outcome.{Outcome}

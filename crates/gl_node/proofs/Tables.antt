@@ -10,8 +10,8 @@ use Rattle.std.proofs.lemmas.List.Elements.{filter-append}
 use Rattle.std.proofs.lemmas.Option.{same_Some, get_or_from_slice_get, slice_get_within, slice_get-get_or}
 use Rattle.std.proofs.lemmas.Slice.Eq.{bytes_eq-Decides}
 use Rattle.gl_base.proofs.Counting.{find_at_some}
-use Rattle.gl_gelf.specs.declared.chunks.Chunks.{Chunks}
-use Rattle.gl_gelf.specs.Chunks.{StandsFor}
+use Rattle.gl_chunks.specs.declared.chunks.Chunks.{Chunks}
+use Rattle.gl_chunks.specs.Chunks.{StandsFor}
 use Rattle.gl_node.specs.declared.config.Input.{Input}
 use Rattle.gl_node.specs.declared.config.Config.{Config}
 use Rattle.gl_node.specs.declared.node.Node.{Node}

@@ -6,9 +6,9 @@ use Rattle.gl_fields.specs.declared.entry.Entry.TheVariants.{Message}
 use Rattle.gl_fields.specs.declared.input_kind.InputKind.{InputKind}
 use Rattle.gl_fields.specs.declared.input_kind.InputKind.TheVariants.{Raw, Gelf, Syslog}
 use Rattle.gl_fields.specs.Entries.{version_after}
-use Rattle.gl_gelf.specs.declared.chunks.Chunked.{Chunked}
-use Rattle.gl_gelf.specs.declared.chunks.Chunked.TheVariants as chunk
-use Rattle.gl_gelf.specs.Chunks.{chunk_answer}
+use Rattle.gl_chunks.specs.declared.chunks.Chunked.{Chunked}
+use Rattle.gl_chunks.specs.declared.chunks.Chunked.TheVariants as chunk
+use Rattle.gl_chunks.specs.Chunks.{chunk_answer}
 use Rattle.gl_node.specs.declared.answer.Arrival.{Arrival}
 use Rattle.gl_node.specs.declared.answer.Arrival.TheVariants.{Journalled, Empty, Held, Repeat, BadChunk, CountMismatch, ChunkTableFull, FrameTooLong, UnknownInput, JournalFull}
 use Rattle.gl_node.specs.Configuration.{config_after, is_input, kind_of}
@@ -17,7 +17,7 @@ use Rattle.gl_node.specs.State.{Datagram, State, Event, Added, Received, entry_b
 -- a payload as the next entry of this journal
 abbrev pub next_entry : List Entry → ℕ → List ℕ → List ℕ → List ℕ → Entry
 next_entry journal moment input peer bytes =
-    Message (record { input = input; peer = peer; moment = moment; version = version_after journal; bytes = bytes })
+    Message (record { input = input; peer = peer; origin = None; moment = moment; version = version_after journal; bytes = bytes })
 
 -- the answer to a payload, in the order of the refusals
 abbrev pub arrival_of : State → ℕ → List ℕ → List ℕ → List ℕ → Arrival

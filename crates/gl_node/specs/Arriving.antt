@@ -1,7 +1,7 @@
 -- What a chunk table makes of a datagram, before its payload is looked at.
 use Rattle.std.specs.Prelude.{◌≡◌, ◌⊎◌, ℕ, List, [], ◌∷◌, ◌++◌, true}
-use Rattle.gl_gelf.specs.declared.chunks.Chunked.{Chunked}
-use Rattle.gl_gelf.specs.declared.chunks.Chunked.TheVariants as chunk
+use Rattle.gl_chunks.specs.declared.chunks.Chunked.{Chunked}
+use Rattle.gl_chunks.specs.declared.chunks.Chunked.TheVariants as chunk
 use Rattle.gl_node.specs.declared.answer.Arrival.{Arrival}
 use Rattle.gl_node.specs.declared.answer.Arrival.TheVariants.{Held, Repeat, BadChunk, CountMismatch, ChunkTableFull, FrameTooLong}
 use Rattle.gl_node.specs.declared.arriving.Taken.{Taken}

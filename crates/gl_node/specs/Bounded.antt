@@ -4,8 +4,8 @@ use Rattle.std.proofs.Props.{props}
 use Rattle.std.specs.List.{All}
 use Rattle.gl_fields.specs.declared.field.Field.{Field}
 use Rattle.gl_fields.specs.declared.field.FieldRefusal.{FieldRefusal}
-use Rattle.gl_fields.specs.declared.field.Value.{Value}
-use Rattle.gl_fields.specs.declared.field.Value.TheVariants.{Text, Whole}
+use Rattle.gl_fields.specs.declared.value.Value.{Value}
+use Rattle.gl_fields.specs.declared.value.Value.TheVariants.{Text, Whole}
 use Rattle.gl_fields.specs.declared.entry.Cause.{Cause}
 use Rattle.gl_fields.specs.declared.entry.Cause.TheVariants.{NotJson, TooDeep, Compressed, NoShortMessage, TooManyFields, TooLarge}
 use Rattle.gl_fields.specs.declared.entry.Outcome.{Outcome}

@@ -12,6 +12,5 @@ pub mod Entering
 pub mod Moments
 pub mod Node
 pub mod Opening
-pub mod Staging
 pub mod Standing
 pub mod State

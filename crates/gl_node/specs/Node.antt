@@ -13,8 +13,8 @@ use Rattle.gl_fields.specs.declared.entry.Outcome.{Outcome}
 use Rattle.gl_fields.specs.Entries.{entry_bytes}
 use Rattle.gl_fields.specs.Outcomes.{outcome_bytes}
 use Rattle.gl_fields.specs.Bounds.{IsOutcome}
-use Rattle.gl_gelf.specs.declared.chunks.Chunks.{Chunks}
-use Rattle.gl_gelf.specs.Chunks.{StandsFor}
+use Rattle.gl_chunks.specs.declared.chunks.Chunks.{Chunks}
+use Rattle.gl_chunks.specs.Chunks.{StandsFor}
 use Rattle.gl_node.specs.declared.config.Input.{Input}
 use Rattle.gl_node.specs.declared.mark.Mark.{Mark}
 use Rattle.gl_node.specs.declared.mark.Claim.{Claim}

@@ -17,10 +17,11 @@ use Rattle.gl_node.specs.declared.node.Options.{Options}
 use Rattle.gl_node.specs.Configuration.{config_after, is_input}
 use Rattle.gl_node.specs.State.{Base, State, outcomes}
 
--- An entry may follow these: a message with lawful parts, the version after them, and an input that is known then. There are no commands yet.
+-- An entry may follow these: a message with lawful parts, the version after them, and an input that is known then. There are no commands yet,
+-- and no message of the second format, which keeps its origin.
 abbrev pub MayFollow : List Entry → Entry → Type 0
 MayFollow before (Admin command) = ⊥
-MayFollow before (Message m) = IsEntry (Message m) × (m.version ≡ version_after before) × IsTrue (is_input (config_after before) m.input)
+MayFollow before (Message m) = IsEntry (Message m) × (m.version ≡ version_after before) × IsTrue (is_input (config_after before) m.input) × (m.origin ≡ None)
 
 -- each entry may follow those before it
 abbrev pub IsLawful : List Entry → Type 0

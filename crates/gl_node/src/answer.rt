@@ -28,7 +28,7 @@ pub enum Arrival {
 }
 
 /// What a claim gives.
-#[derive(Debug, Drop)]
+#[derive(Drop)]
 pub enum Claimed {
     /// A range to work on.
     Range(Range),

@@ -14,13 +14,10 @@ use crate::entering::message_of;
 use crate::fault::NodeFault;
 use crate::node::Node;
 use gl_base::Items;
-use gl_fields::{Entry, InputKind};
+use gl_fields::{Entry, InputKind, MAX_PAYLOAD};
 use gl_gelf::Chunked;
 use gl_outside::Disk;
 use std::alloc::AllocError;
-
-// How many bytes a payload has at most.
-pub(crate) const MAX_PAYLOAD: usize = 1_048_576;
 
 // What became of a datagram before its payload is looked at.
 enum Taken {

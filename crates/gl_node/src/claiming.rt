@@ -1,5 +1,5 @@
 // Ranges of positions: who holds one, what a worker is given of one, and whether work is of one.
-ghost use Rattle.std.specs.Prelude.{◌≡◌, ◌↔◌, ◌==◌, ◌+◌, ◌<◌, ◌≤◌, ℕ, length, vec_len, None, IsTrue, IfOk, OnErr, slice_range, nat_lt, find, map};
+ghost use Rattle.std.specs.Prelude.{◌≡◌, ◌↔◌, ◌==◌, ◌+◌, ◌<◌, ◌≤◌, vec_len, None, IsTrue, IfOk, OnErr, slice_range, nat_lt, find};
 ghost use Rattle.std.specs.List.{list_any, position};
 ghost use Rattle.gl_node.specs.Claims.{mark_of, range_of};
 ghost use Rattle.gl_node.specs.Node.{Keeps, stopped_of, store_of};

@@ -1,5 +1,5 @@
 // How work comes in, and how the ranges that are ready are committed.
-ghost use Rattle.std.specs.Prelude.{◌≡◌, ◌==◌, ◌+◌, ◌++◌, ◌<◌, ◌≤◌, ℕ, length, map, vec_len, vec_capacity, Some, slice_get, IfOk, OnOk, OnErr};
+ghost use Rattle.std.specs.Prelude.{◌≡◌, ◌==◌, ◌+◌, ◌++◌, ◌<◌, ◌≤◌, length, map, vec_len, vec_capacity, Some, slice_get, IfOk, OnOk, OnErr};
 ghost use Rattle.std.specs.List.{All, position, remove};
 ghost use Rattle.gl_outside.specs.Disk.{Tells, LeavesOnly};
 ghost use Rattle.gl_gatelog.specs.View.{batch_of};

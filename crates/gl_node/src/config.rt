@@ -9,7 +9,7 @@ use gl_fields::InputKind;
 use std::alloc::{AllocError, Global};
 
 /// An input: the name by which senders reach it, and what decodes its payloads.
-#[derive(Debug, Drop)]
+#[derive(Drop)]
 pub struct Input {
     pub name: Text,
     pub kind: InputKind,
@@ -18,7 +18,7 @@ pub struct Input {
 /// A configuration of the server: its version, which is the number of commands that made it, and its
 /// inputs, no two of one name. There are no commands yet, so the version is 0 and the inputs are `raw`,
 /// `gelf` and `syslog`.
-#[derive(Debug, Drop)]
+#[derive(Drop)]
 pub struct Config {
     pub version: u64,
     pub inputs: Items<Input>,

@@ -1,5 +1,5 @@
 // An entry goes into the journal.
-ghost use Rattle.std.specs.Prelude.{◌≡◌, ◌+◌, ◌≤◌, [], ◌∷◌, ◌++◌, false, length, IfOk, OnErr, vec_capacity};
+ghost use Rattle.std.specs.Prelude.{◌≡◌, ◌+◌, ◌≤◌, [], ◌∷◌, ◌++◌, false, length, IfOk, OnErr, None, vec_capacity};
 ghost use Rattle.gl_outside.specs.Disk.{Tells, LeavesOnly};
 ghost use Rattle.gl_gatelog.specs.View.{batch_of};
 ghost use Rattle.gl_fields.specs.Bounds.{IsEntry};
@@ -30,11 +30,12 @@ pub fn message_of(
     peer: &str,
     bytes: &[u8],
 ) -> Result<Message, AllocError>
-    ensures { IfOk result (λ m. m ≡ record { input = input.now; peer = peer.now; moment = moment; version = version; bytes = bytes.now }) }
+    ensures { IfOk result (λ m. m ≡ record { input = input.now; peer = peer.now; origin = None; moment = moment; version = version; bytes = bytes.now }) }
 {
     Ok(Message {
         input: Text::from_str(alloc, input)?,
         peer: Text::from_str(alloc, peer)?,
+        origin: None,
         moment,
         version,
         bytes: Items::from_slice(alloc, bytes)?,

@@ -1,5 +1,5 @@
 // The node: two logs on a disk, and what is kept of them in memory.
-ghost use Rattle.std.specs.Prelude.{◌≡◌, ◌⊎◌, ◌<◌, ◌≤◌, ℕ, List, [], length, Some, None, IfOk, IfErr, OnOk, OnErr, IsErrOf, MatchResult, slice_get};
+ghost use Rattle.std.specs.Prelude.{◌≡◌, ◌⊎◌, ◌<◌, ℕ, List, [], length, None, IfOk, OnOk, IsErrOf, MatchResult, slice_get};
 ghost use Rattle.std.specs.Option.{option_copied};
 ghost use Rattle.gl_base.specs.Counts.{HasCause};
 ghost use Rattle.gl_outside.specs.Disk.{Image, IsUnchanged, Tells, LeavesOnly};
@@ -7,15 +7,14 @@ ghost use Rattle.gl_gatelog.specs.declared.kind.Log.{Log};
 ghost use Rattle.gl_fields.specs.declared.entry.Entry.{Entry};
 ghost use Rattle.gl_fields.specs.declared.entry.Outcome.{Outcome};
 ghost use Rattle.gl_fields.specs.Entries.{version_after};
-ghost use Rattle.gl_node.specs.Calls.{HasNodeCause};
-ghost use Rattle.gl_node.specs.Moments.{LeftBy, LeftSince};
+ghost use Rattle.gl_node.specs.Moments.{LeftSince};
 ghost use Rattle.gl_node.specs.Node.{AreTables, IsRunning, Keeps, NodeOn, NodeReady};
 ghost use Rattle.gl_node.specs.Damage.{IsDamaged};
 ghost use Rattle.gl_node.specs.Standing.{AreOptions, HasLimits, IsStore, Shows, StandsFor, base_of};
-ghost use Rattle.gl_node.specs.State.{Base, State, Received, commit_count, happened, opened, outcomes, state_after};
+ghost use Rattle.gl_node.specs.State.{Base, State, commit_count, opened, outcomes};
 
 use crate::config::{Config, Input};
-use crate::fault::{NodeFault, OpenFault};
+use crate::fault::OpenFault;
 use crate::mark::Claim;
 use crate::reading::{read_index, read_journal};
 use crate::resuming::take_up;

@@ -1,12 +1,9 @@
 // The logs of a store are read: each from its begin to its end, its records decoded as they come.
-ghost use Rattle.std.specs.Prelude.{◌≡◌, ◌≢◌, ◌⊎◌, ◌↔◌, ◌++◌, ◌+◌, ◌-◌, ◌<◌, ◌≤◌, ◌^◌, ℕ, List, length, map, take, true, false, IsTrue, IfOk, IfErr, OnErr, IsErrOf};
+ghost use Rattle.std.specs.Prelude.{◌≡◌, ◌↔◌, ◌++◌, ◌+◌, ◌-◌, ◌<◌, ◌≤◌, ◌^◌, ℕ, List, length, map, true, false, IsTrue, IfOk, IsErrOf};
 ghost use Rattle.std.specs.List.{All};
 ghost use Rattle.gl_base.specs.Counts.{HasCause};
 ghost use Rattle.gl_outside.specs.Disk.{Tells, IsUnchanged, LeavesOnly};
 ghost use Rattle.gl_gatelog.specs.declared.kind.Log.{Log};
-ghost use Rattle.gl_gatelog.specs.Batch.{Batch};
-ghost use Rattle.gl_gatelog.specs.Log.{records_of};
-ghost use Rattle.gl_gatelog.specs.Progress.{HasRead};
 ghost use Rattle.gl_gatelog.specs.View.{batch_of};
 ghost use Rattle.gl_fields.specs.declared.entry.Entry.{Entry};
 ghost use Rattle.gl_fields.specs.Bounds.{IsEntry, IsOutcome};
@@ -46,7 +43,9 @@ fn may_follow(config: &Config, entry: &Entry) -> bool
     match entry {
         Entry::Admin(_) => false,
         Entry::Message(message) => {
-            message.version == config.version && config.knows(message.input.as_str())
+            message.version == config.version
+                && config.knows(message.input.as_str())
+                && message.origin.is_none()
         }
     }
 }

@@ -1,5 +1,5 @@
 // Both logs of a store, read to their ends, are taken up.
-ghost use Rattle.std.specs.Prelude.{◌≡◌, ◌≢◌, ℕ, List, IfOk, IfErr};
+ghost use Rattle.std.specs.Prelude.{◌≡◌, List, IfOk, IfErr};
 ghost use Rattle.gl_base.specs.Counts.{HasCause};
 ghost use Rattle.gl_outside.specs.Disk.{After, LeavesOnly, Tells};
 ghost use Rattle.gl_gatelog.specs.declared.kind.Log.{Log};

@@ -2,51 +2,20 @@
 ghost use Rattle.std.specs.Prelude.{◌≡◌, ◌≤◌, IfOk, map};
 ghost use Rattle.std.specs.List.{All};
 ghost use Rattle.gl_fields.specs.Bounds.{IsOutcome};
-ghost use Rattle.gl_node.specs.declared.staging.DecodeFault.TheVariants.{OutOfMemory};
-ghost use Rattle.gl_fields.specs.Putting.{map_with};
+ghost use Rattle.gl_fields.specs.Putting.{map_with, IsDecoded};
 ghost use Rattle.gl_node.specs.Decoding.{decoded_as, outcome_under, raw_fields};
-ghost use Rattle.gl_node.specs.Staging.{IsDecoded, fault_of};
 
-use crate::arriving::MAX_PAYLOAD;
 use crate::config::Config;
-use gl_base::{Items, Text};
-use gl_fields::{Cause, Entry, FieldMap, FieldRefusal, InputKind, Message, Outcome, Value};
+use gl_base::{Items, Joint, Text};
+use gl_fields::{
+    Cause, DecodeFault, Entry, FieldMap, InputKind, LAST_MOMENT, MAX_PAYLOAD, Message, Outcome,
+    Value,
+};
 use gl_gelf::decode_gelf;
 use gl_syslog::decode_syslog;
 use std::alloc::{AllocError, Global};
 
 const DEFAULT_STREAM: u64 = 1;
-
-// The last millisecond of the year 9999.
-const LAST_MOMENT: u64 = 253_402_300_799_999;
-
-// Why a message gives no fields.
-enum DecodeFault {
-    Undecodable(Cause),
-    OutOfMemory,
-}
-
-impl From<AllocError> for DecodeFault {
-    ghost from_gives = { λ _ e. e ≡ OutOfMemory };
-
-    fn from(_: AllocError) -> Self {
-        DecodeFault::OutOfMemory
-    }
-}
-
-impl From<FieldRefusal> for DecodeFault {
-    ghost from_gives = { λ refusal e. e ≡ fault_of refusal };
-
-    fn from(refusal: FieldRefusal) -> Self {
-        match refusal {
-            FieldRefusal::OutOfMemory => DecodeFault::OutOfMemory,
-            FieldRefusal::TooManyFields => DecodeFault::Undecodable(Cause::TooManyFields),
-            FieldRefusal::BadFieldName | FieldRefusal::TooLarge | FieldRefusal::Reserved => {
-                DecodeFault::Undecodable(Cause::TooLarge)
-            }
-        }
-    }
-}
 
 // The outcomes of entries, one after another.
 pub fn stage_entries(
@@ -84,6 +53,8 @@ fn stage_message(alloc: Global, config: &Config, message: &Message) -> Result<Ou
             let streams = Items::from_slice(alloc, &[DEFAULT_STREAM])?;
             // Each map is within the bounds of one, as its length says.
             let _ = fields.len();
+            let streams = Joint::new(alloc, streams)?;
+            let fields = Joint::new(alloc, fields)?;
             Ok(Outcome::Stored { streams, fields })
         }
         Err(cause) => Ok(Outcome::Undecodable(cause)),

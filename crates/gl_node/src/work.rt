@@ -13,7 +13,7 @@ use std::alloc::{AllocError, Global};
 
 /// A range of the journal to be worked on: its entries from a position on, which are of one version,
 /// and the configuration of that version.
-#[derive(Debug, Drop)]
+#[derive(Drop)]
 pub struct Range {
     pub first: u64,
     pub config: Config,
@@ -21,7 +21,7 @@ pub struct Range {
 }
 
 /// A range with the outcomes of its entries.
-#[derive(Debug, Drop)]
+#[derive(Drop)]
 pub struct Work {
     pub range: Range,
     pub outcomes: Items<Outcome>,

@@ -1,7 +1,7 @@
 use Rattle.std.proofs.Common.{List, [], ◌∷◌, length, sym, ap, subst, arith, length-append}
 use Rattle.std.proofs.lemmas.List.Elements.{All-push}
-use Rattle.gl_gelf.specs.declared.chunks.Chunks.{Chunks}
-use Rattle.gl_gelf.specs.Chunks.{StandsFor}
+use Rattle.gl_chunks.specs.declared.chunks.Chunks.{Chunks}
+use Rattle.gl_chunks.specs.Chunks.{StandsFor}
 use Rattle.gl_node.proofs.Tables.{AreFresh, none_received}
 use Rattle.gl_node.proofs.node.new_tables.Goals as goal
 
