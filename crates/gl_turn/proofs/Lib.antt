@@ -3,7 +3,6 @@ mod Ending
 mod Keeping
 mod Known
 mod Orders
-mod PadLists
 mod Places
 mod Seating
 mod Splitting

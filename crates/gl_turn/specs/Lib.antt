@@ -1,6 +1,5 @@
 pub mod Order
 pub mod Own
-pub mod Pads
 pub mod Rule
 pub mod Seats
 pub mod Steps

@@ -17,8 +17,6 @@ mod refusal;
 mod rule;
 mod seen;
 mod shared;
-#[cfg(test)]
-mod tests;
 mod turn;
 mod view;
 

@@ -1,0 +1,5 @@
+use Rattle.gl_turn.specs.Seats.{IsSeatOf, IsOutside}
+use Rattle.gl_parts_tests.proofs.turns.add_many.Given as goal
+
+abbrev pub invariant-loop : goal.invariant-loop
+invariant-loop g l = IsSeatOf l.lock l.seat × IsOutside l.seat
