@@ -1,0 +1,12 @@
+pub mod Standing
+pub mod Taking
+pub mod Sound
+pub mod Doing
+pub mod Rows
+pub mod Courses
+pub mod Heights
+pub mod Counts
+pub mod Asked
+pub mod Called
+pub mod Rules
+pub mod Typed

@@ -1,0 +1,6 @@
+pub mod Meaning
+pub mod Actions
+pub mod Changes
+pub mod Patterns
+pub mod Scopes
+pub mod Typing
