@@ -1,0 +1,4 @@
+pub mod Stages
+pub mod Rounds
+pub mod Books
+pub mod Lent
