@@ -1,0 +1,7 @@
+use Rattle.std.proofs.Common.{◌≡◌, take}
+use Rattle.std.specs.List.{filter}
+use Rattle.gl_fields.specs.Fields.{comes_before}
+use Rattle.gl_settings.proofs.named.copies_before.Given as goal
+
+abbrev pub invariant-loop-item : goal.invariant-loop-item
+invariant-loop-item g l = l.copies ≡ filter (λ item. comes_before (g.T.Named.name_of item) l.name) (take l.item-index l.items)
