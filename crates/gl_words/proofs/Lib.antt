@@ -1,0 +1,5 @@
+pub mod Choosing
+pub mod Finding
+pub mod Rising
+pub mod Standing
+pub mod Walking
