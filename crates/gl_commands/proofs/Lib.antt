@@ -1,0 +1,10 @@
+pub mod Back
+pub mod Canonical
+pub mod Keyed
+pub mod Kept
+pub mod Numbered
+pub mod Options
+pub mod ReadsBack
+pub mod Tidy
+pub mod Utf8Back
+pub mod Utf8Texts
