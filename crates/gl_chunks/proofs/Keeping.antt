@@ -16,7 +16,7 @@ use Rattle.std.proofs.lemmas.Bool.Decides.{nat_tests}
 use Rattle.gl_chunks.specs.declared.chunk_set.ChunkSet.{ChunkSet}
 use Rattle.gl_chunks.specs.declared.chunks.Chunked.{Chunked}
 use Rattle.gl_chunks.specs.declared.chunks.Chunked.TheVariants as answers
-use Rattle.gl_chunks.specs.Chunks.{begins_as_chunk, beside, while_live, opened, at_itself, Standing, live_set, has_ended, live_sets, opened_set, with_part, refusal, refusal_by, with_set, with_end, joined, unless, chunk_head, chunk_turn, chunk_answer, at_moment, turn, turn_by, standing_behind, standing_of, Tells, Keeps}
+use Rattle.gl_chunks.specs.Chunks.{begins_as_chunk, beside, while_live, opened, at_itself, Standing, live_set, has_ended, live_sets, opened_set, with_part, refusal, refusal_by, with_set, with_end, joined, unless, chunk_head, chunk_turn, chunk_answer, at_moment, turn, turn_by, standing_behind, standing_of, Tells, IsTable}
 
 -- ---- what is live
 pub live_some : {X : Type 0} (since : X → ℕ) (now : ℕ) (o : Option X) (x : X) → while_live since now o ≡ Some x → o ≡ Some x
@@ -47,14 +47,14 @@ tells_put {X} since now id w f g f' g' f_is g_is t = λ m q le.
 pub tells_same : {X : Type 0} (since : X → ℕ) (now : ℕ) (old new : tree.BTreeMap ℕ X) (g : ℕ → Option X) → tree.IsUnchanged old new → Tells since now (tree.get nat_cmp old) g → Tells since now (tree.get nat_cmp new) g
 tells_same {X} since now old new g e t = λ m q le. ap (λ (es : List (ℕ × X)). while_live since m (lookup (is_at (nat_cmp q)) es)) e ∙ t m q le
 
-pub keeps_same : (now : ℕ) (a b : tree.BTreeMap ℕ ChunkSet) (x y : tree.BTreeMap ℕ ℕ) (s : Standing) → tree.IsUnchanged a b → tree.IsUnchanged x y → Keeps now a x s → Keeps now b y s
+pub keeps_same : (now : ℕ) (a b : tree.BTreeMap ℕ ChunkSet) (x y : tree.BTreeMap ℕ ℕ) (s : Standing) → tree.IsUnchanged a b → tree.IsUnchanged x y → IsTable now a x s → IsTable now b y s
 keeps_same now a b x y s e f k = record {
   now_is = k.now_is;
   of_sets = tells_same opened now a b (finite.get s.sets) e k.of_sets;
   of_ended = tells_same at_itself now x y (finite.get s.ended) f k.of_ended;
 }
 
-pub keeps_at : (now m moment : ℕ) (a : tree.BTreeMap ℕ ChunkSet) (x : tree.BTreeMap ℕ ℕ) (s : Standing) → m ≡ max now (min moment 253402300799999) → Keeps now a x s → Keeps m a x (at_moment s moment)
+pub keeps_at : (now m moment : ℕ) (a : tree.BTreeMap ℕ ChunkSet) (x : tree.BTreeMap ℕ ℕ) (s : Standing) → m ≡ max now (min moment 253402300799999) → IsTable now a x s → IsTable m a x (at_moment s moment)
 keeps_at now m moment a x s m_is k =
     let le : now ≤ m = omega (arith, m_is) in
     record {
@@ -64,7 +64,7 @@ keeps_at now m moment a x s m_is k =
     }
 
 pub keeps_set : (now id : ℕ) (set : ChunkSet) (a b : tree.BTreeMap ℕ ChunkSet) (x : tree.BTreeMap ℕ ℕ) (s : Standing) → ((q : ℕ) → tree.get nat_cmp b q ≡ cond (eq_by_cmp nat_cmp id q) (Some set) (tree.get nat_cmp a q))
-    → Keeps now a x s → Keeps now b x (with_set s id set)
+    → IsTable now a x s → IsTable now b x (with_set s id set)
 keeps_set now id set a b x s is k = record {
   now_is = k.now_is;
   of_sets = tells_put opened now id (Some set) (tree.get nat_cmp a) (finite.get s.sets) (tree.get nat_cmp b) (finite.get (finite.insert s.sets id set)) is (λ q. finite.get-insert nat_cmp_total s.sets id set q) k.of_sets;
@@ -72,7 +72,7 @@ keeps_set now id set a b x s is k = record {
 }
 
 pub keeps_open : (now id : ℕ) (set : ChunkSet) (a b : tree.BTreeMap ℕ ChunkSet) (x : tree.BTreeMap ℕ ℕ) (s : Standing) → Tells opened now (tree.get nat_cmp b) (λ q. cond (eq_by_cmp nat_cmp id q) (Some set) (tree.get nat_cmp a q))
-    → Keeps now a x s → Keeps now b x (with_set s id set)
+    → IsTable now a x s → IsTable now b x (with_set s id set)
 keeps_open now id set a b x s told k = record {
   now_is = k.now_is;
   of_sets = λ m q le. told m q le ∙ tells_put opened now id (Some set) (tree.get nat_cmp a) (finite.get s.sets) (λ p. cond (eq_by_cmp nat_cmp id p) (Some set) (tree.get nat_cmp a p)) (finite.get (finite.insert s.sets id set)) (λ p. refl)
@@ -81,7 +81,7 @@ keeps_open now id set a b x s told k = record {
 }
 
 pub keeps_end : (now id : ℕ) (a b : tree.BTreeMap ℕ ChunkSet) (x y : tree.BTreeMap ℕ ℕ) (s : Standing) → ((q : ℕ) → tree.get nat_cmp b q ≡ cond (eq_by_cmp nat_cmp id q) None (tree.get nat_cmp a q))
-    → ((q : ℕ) → tree.get nat_cmp y q ≡ cond (eq_by_cmp nat_cmp id q) (Some now) (tree.get nat_cmp x q)) → Keeps now a x s → Keeps now b y (with_end s id)
+    → ((q : ℕ) → tree.get nat_cmp y q ≡ cond (eq_by_cmp nat_cmp id q) (Some now) (tree.get nat_cmp x q)) → IsTable now a x s → IsTable now b y (with_end s id)
 keeps_end now id a b x y s gone put k = record {
   now_is = k.now_is;
   of_sets = tells_put opened now id None (tree.get nat_cmp a) (finite.get s.sets) (tree.get nat_cmp b) (finite.get (finite.remove s.sets id)) gone (λ q. finite.get-remove nat_cmp_total s.sets id q) k.of_sets;
@@ -164,17 +164,17 @@ not_full now a all ordered tells few =
     grind (arith, nat_tests, below)
 
 -- ---- the turns
-pub ended_is : (now id : ℕ) (a : tree.BTreeMap ℕ ChunkSet) (x : tree.BTreeMap ℕ ℕ) (s : Standing) → Keeps now a x s → has_ended s id ≡ is_some (while_live at_itself now (tree.get nat_cmp x id))
+pub ended_is : (now id : ℕ) (a : tree.BTreeMap ℕ ChunkSet) (x : tree.BTreeMap ℕ ℕ) (s : Standing) → IsTable now a x s → has_ended s id ≡ is_some (while_live at_itself now (tree.get nat_cmp x id))
 ended_is now id a x s k = ap (λ (n : ℕ). is_some (while_live at_itself n (finite.get s.ended id))) k.now_is ∙ ap is_some (sym (k.of_ended now id (omega arith)))
 
-pub live_is : (now id : ℕ) (a : tree.BTreeMap ℕ ChunkSet) (x : tree.BTreeMap ℕ ℕ) (s : Standing) → Keeps now a x s → live_set s id ≡ while_live opened now (tree.get nat_cmp a id)
+pub live_is : (now id : ℕ) (a : tree.BTreeMap ℕ ChunkSet) (x : tree.BTreeMap ℕ ℕ) (s : Standing) → IsTable now a x s → live_set s id ≡ while_live opened now (tree.get nat_cmp a id)
 live_is now id a x s k = ap (λ (n : ℕ). while_live opened n (finite.get s.sets id)) k.now_is ∙ sym (k.of_sets now id (omega arith))
 
 -- an answer and what is kept, by the turn
 abbrev pub Turns : ℕ → tree.BTreeMap ℕ ChunkSet → tree.BTreeMap ℕ ℕ → Chunked → Chunked × Standing → Type 0
-Turns now a x answer t = (answer ≡ t.0) × Keeps now a x t.1
+Turns now a x answer t = (answer ≡ t.0) × IsTable now a x t.1
 
-pub refused : (now id number count : ℕ) (part : List ℕ) (a : tree.BTreeMap ℕ ChunkSet) (x : tree.BTreeMap ℕ ℕ) (s : Standing) (answer : Chunked) → refusal s id number count ≡ Some answer → Keeps now a x s
+pub refused : (now id number count : ℕ) (part : List ℕ) (a : tree.BTreeMap ℕ ChunkSet) (x : tree.BTreeMap ℕ ℕ) (s : Standing) (answer : Chunked) → refusal s id number count ≡ Some answer → IsTable now a x s
     → Turns now a x answer (chunk_turn s id number count part)
 unfolding chunk_turn
 refused now id number count part a x s answer e k =
@@ -201,7 +201,7 @@ unfolding standing_behind
 behind_more s [] d = refl
 behind_more s (e ∷ ds) d = behind_more (turn s e).1 ds d
 
-pub keeps_new : (a : tree.BTreeMap ℕ ChunkSet) (x : tree.BTreeMap ℕ ℕ) → tree.IsEmpty a → tree.IsEmpty x → Keeps 0 a x (standing_of [])
+pub keeps_new : (a : tree.BTreeMap ℕ ChunkSet) (x : tree.BTreeMap ℕ ℕ) → tree.IsEmpty a → tree.IsEmpty x → IsTable 0 a x (standing_of [])
 unfolding standing_behind
 keeps_new a x none none_ended = record {
   now_is = refl;
@@ -210,40 +210,40 @@ keeps_new a x none none_ended = record {
 }
 
 pub answered : (now m moment : ℕ) (bytes : List ℕ) (list : List (ℕ × List ℕ)) (a b d : tree.BTreeMap ℕ ChunkSet) (x y z : tree.BTreeMap ℕ ℕ) (answer : Chunked) → m ≡ max now (min moment 253402300799999)
-    → ((s : Standing) → Keeps m a x s → Turns m b y answer (turn_by s bytes (chunk_head bytes))) → ((s : Standing) → Keeps m b y s → Keeps m d z s) → Keeps now a x (standing_of list)
-    → (answer ≡ chunk_answer list moment bytes) × Keeps m d z (standing_of (list ++ (moment, bytes) ∷ []))
+    → ((s : Standing) → IsTable m a x s → Turns m b y answer (turn_by s bytes (chunk_head bytes))) → ((s : Standing) → IsTable m b y s → IsTable m d z s) → IsTable now a x (standing_of list)
+    → (answer ≡ chunk_answer list moment bytes) × IsTable m d z (standing_of (list ++ (moment, bytes) ∷ []))
 unfolding turn
 answered now m moment bytes list a b d x y z answer m_is ok kept k =
     let s : Standing = at_moment (standing_of list) moment in
     let t = ok s (keeps_at now m moment a x (standing_of list) m_is k) in
-    (t.0, subst (λ (u : Standing). Keeps m d z u) (sym (behind_more (record { now = 0; sets = finite.empty; ended = finite.empty }) list (moment, bytes))) (kept (turn_by s bytes (chunk_head bytes)).1 t.1))
+    (t.0, subst (λ (u : Standing). IsTable m d z u) (sym (behind_more (record { now = 0; sets = finite.empty; ended = finite.empty }) list (moment, bytes))) (kept (turn_by s bytes (chunk_head bytes)).1 t.1))
 
 -- ---- the exits of a chunk
-pub chunk_repeat : (now id number count : ℕ) (part : List ℕ) (a : tree.BTreeMap ℕ ChunkSet) (x : tree.BTreeMap ℕ ℕ) (s : Standing) → is_some (while_live at_itself now (tree.get nat_cmp x id)) ≡ true → Keeps now a x s
+pub chunk_repeat : (now id number count : ℕ) (part : List ℕ) (a : tree.BTreeMap ℕ ChunkSet) (x : tree.BTreeMap ℕ ℕ) (s : Standing) → is_some (while_live at_itself now (tree.get nat_cmp x id)) ≡ true → IsTable now a x s
     → Turns now a x answers.Repeat (chunk_turn s id number count part)
 chunk_repeat now id number count part a x s is k = refused now id number count part a x s answers.Repeat (refusal_ended s id number count (ended_is now id a x s k ∙ is)) k
 
 pub chunk_beside : (now id number count : ℕ) (part : List ℕ) (a : tree.BTreeMap ℕ ChunkSet) (x : tree.BTreeMap ℕ ℕ) (s : Standing) (set : ChunkSet) (answer : Chunked)
-    → is_some (while_live at_itself now (tree.get nat_cmp x id)) ≡ false → while_live opened now (tree.get nat_cmp a id) ≡ Some set → beside set number count ≡ Some answer → Keeps now a x s
+    → is_some (while_live at_itself now (tree.get nat_cmp x id)) ≡ false → while_live opened now (tree.get nat_cmp a id) ≡ Some set → beside set number count ≡ Some answer → IsTable now a x s
     → Turns now a x answer (chunk_turn s id number count part)
 chunk_beside now id number count part a x s set answer past live is k =
     refused now id number count part a x s answer (refusal_live s id number count (Some set) (ended_is now id a x s k ∙ past) (live_is now id a x s k ∙ live) ∙ is) k
 
 pub chunk_joins : (now id number count : ℕ) (part : List ℕ) (a b : tree.BTreeMap ℕ ChunkSet) (x y : tree.BTreeMap ℕ ℕ) (s : Standing) (set : ChunkSet) (answer : Chunked) (t : Chunked × Standing)
-    → is_some (while_live at_itself now (tree.get nat_cmp x id)) ≡ false → while_live opened now (tree.get nat_cmp a id) ≡ Some set → beside set number count ≡ None → Keeps now a x s
+    → is_some (while_live at_itself now (tree.get nat_cmp x id)) ≡ false → while_live opened now (tree.get nat_cmp a id) ≡ Some set → beside set number count ≡ None → IsTable now a x s
     → joined s id (with_part set number part) ≡ t → Turns now b y answer t → Turns now b y answer (chunk_turn s id number count part)
 chunk_joins now id number count part a b x y s set answer t past live is k joins turned =
     takes now id number count part a b x y s answer (Some set) t (refusal_live s id number count (Some set) (ended_is now id a x s k ∙ past) (live_is now id a x s k ∙ live) ∙ is) (live_is now id a x s k ∙ live) joins turned
 
 pub chunk_full : (now id number count : ℕ) (part : List ℕ) (a : tree.BTreeMap ℕ ChunkSet) (x : tree.BTreeMap ℕ ℕ) (s : Standing)
-    → is_some (while_live at_itself now (tree.get nat_cmp x id)) ≡ false → while_live opened now (tree.get nat_cmp a id) ≡ None → nat_le 1024 (finite.len (live_sets now s.sets)) ≡ true → Keeps now a x s
+    → is_some (while_live at_itself now (tree.get nat_cmp x id)) ≡ false → while_live opened now (tree.get nat_cmp a id) ≡ None → nat_le 1024 (finite.len (live_sets now s.sets)) ≡ true → IsTable now a x s
     → Turns now a x answers.ChunkTableFull (chunk_turn s id number count part)
 chunk_full now id number count part a x s past live full k =
     refused now id number count part a x s answers.ChunkTableFull (refusal_live s id number count None (ended_is now id a x s k ∙ past) (live_is now id a x s k ∙ live)
     ∙ ap (λ (n : ℕ). cond (nat_le 1024 (finite.len (live_sets n s.sets))) (Some answers.ChunkTableFull) None) k.now_is ∙ ap (λ (b : Bool). cond b (Some answers.ChunkTableFull) None) full) k
 
 pub chunk_opens : (now id number count : ℕ) (part : List ℕ) (a b : tree.BTreeMap ℕ ChunkSet) (x y : tree.BTreeMap ℕ ℕ) (s : Standing) (answer : Chunked) (t : Chunked × Standing)
-    → is_some (while_live at_itself now (tree.get nat_cmp x id)) ≡ false → while_live opened now (tree.get nat_cmp a id) ≡ None → nat_le 1024 (finite.len (live_sets now s.sets)) ≡ false → Keeps now a x s
+    → is_some (while_live at_itself now (tree.get nat_cmp x id)) ≡ false → while_live opened now (tree.get nat_cmp a id) ≡ None → nat_le 1024 (finite.len (live_sets now s.sets)) ≡ false → IsTable now a x s
     → joined s id (with_part (opened_set now count) number part) ≡ t → Turns now b y answer t → Turns now b y answer (chunk_turn s id number count part)
 chunk_opens now id number count part a b x y s answer t past live room k joins turned =
     takes now id number count part a b x y s answer None t (refusal_live s id number count None (ended_is now id a x s k ∙ past) (live_is now id a x s k ∙ live)
@@ -251,7 +251,7 @@ chunk_opens now id number count part a b x y s answer t past live room k joins t
     (live_is now id a x s k ∙ live) (ap (λ (n : ℕ). joined s id (with_part (opened_set n count) number part)) k.now_is ∙ joins) turned
 
 pub no_head : (now : ℕ) (bytes : List ℕ) (a : tree.BTreeMap ℕ ChunkSet) (x : tree.BTreeMap ℕ ℕ) (s : Standing) (answer : Chunked) → chunk_head bytes ≡ None → answer ≡ (if begins_as_chunk bytes then answers.BadChunk else answers.Plain)
-    → Keeps now a x s → Turns now a x answer (turn_by s bytes (chunk_head bytes))
+    → IsTable now a x s → Turns now a x answer (turn_by s bytes (chunk_head bytes))
 no_head now bytes a x s answer none is k = subst (λ (h : Option (ℕ × ℕ × ℕ)). Turns now a x answer (turn_by s bytes h)) (sym none) (is, k)
 
 pub some_head : (now id number count : ℕ) (part bytes : List ℕ) (b : tree.BTreeMap ℕ ChunkSet) (y : tree.BTreeMap ℕ ℕ) (s : Standing) (answer : Chunked) → chunk_head bytes ≡ Some (id, number, count) → part ≡ drop 12 bytes

@@ -142,11 +142,11 @@ chunk_answer earlier moment bytes = (turn (standing_of earlier) (moment, bytes))
 abbrev pub Tells : {X : Type 0} → (X → ℕ) → ℕ → (ℕ → Option X) → (ℕ → Option X) → Type 0
 Tells since now f g = (moment id : ℕ) → now ≤ moment → while_live since moment (f id) ≡ while_live since moment (g id)
 
-pub record Keeps (now : ℕ) (sets : tree.BTreeMap ℕ ChunkSet) (ended : tree.BTreeMap ℕ ℕ) (s : Standing) : Type 0 where
+pub record IsTable (now : ℕ) (sets : tree.BTreeMap ℕ ChunkSet) (ended : tree.BTreeMap ℕ ℕ) (s : Standing) : Type 0 where
   pub now_is : s.now ≡ now
   pub of_sets : Tells opened now (tree.get nat_cmp sets) (map.get s.sets)
   pub of_ended : Tells at_itself now (tree.get nat_cmp ended) (map.get s.ended)
 
 -- a table that was given these datagrams with their moments, oldest first
 abbrev pub StandsFor : Chunks → List (ℕ × List ℕ) → Type 0
-StandsFor table datagrams = Keeps table.now table.sets table.ended (standing_of datagrams)
+StandsFor table datagrams = IsTable table.now table.sets table.ended (standing_of datagrams)

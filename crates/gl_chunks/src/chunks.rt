@@ -1,11 +1,11 @@
 // The chunks of messages (GELF by UDP), which are put together. What is kept tells what stands behind all datagrams so far
-// (`Keeps`); what isn't live may be gone from it, so that discarding changes no answer.
+// (`IsTable`); what isn't live may be gone from it, so that discarding changes no answer.
 ghost use Rattle.std.specs.Prelude.{◌≡◌, ◌≤◌, ◌<◌, ◌+◌, ◌++◌, [], ◌∷◌, ℕ, List, length, drop, nat_le, nat_lt, cond, Option, Some, None, is_some, IfOk, OnOk, OnErr, IfSome, IfNone, if◌then◌else◌};
 ghost use Rattle.std.specs.Option.{option_copied};
 ghost use Rattle.std.specs.Ordering.{nat_cmp, eq_by_cmp};
 ghost use Rattle.std.specs.BTreeMap.{get, IsUnchanged};
 ghost use Rattle.gl_chunks.specs.declared.chunk_set.ChunkSet.{ChunkSet};
-ghost use Rattle.gl_chunks.specs.Chunks.{chunk_head, begins_as_chunk, while_live, opened, at_itself, with_part, beside, with_end, joined, chunk_turn, turn_by, Standing, Tells, Keeps, StandsFor, chunk_answer};
+ghost use Rattle.gl_chunks.specs.Chunks.{chunk_head, begins_as_chunk, while_live, opened, at_itself, with_part, beside, with_end, joined, chunk_turn, turn_by, Standing, Tells, IsTable, StandsFor, chunk_answer};
 ghost use Rattle.gl_chunks.specs.declared.chunks.Chunked.TheVariants as answers;
 ghost use Rattle.gl_chunks.specs.Growing.{grown_turn, Fits};
 ghost use Rattle.gl_chunks.specs.Openings.{HasRoom};
@@ -97,8 +97,8 @@ impl Chunks {
 
     /// The answer at a moment. For want of memory nothing changes.
     fn answer(&mut self, now: u64, bytes: &[u8]) -> Result<Chunked, AllocError>
-        ensures ok { IfOk result (λ answer. (s : Standing) → Keeps now self.old.sets self.old.ended s
-            → (answer ≡ (turn_by s bytes.now (chunk_head bytes.now)).0) × Keeps now self.new.sets self.new.ended (turn_by s bytes.now (chunk_head bytes.now)).1) }
+        ensures ok { IfOk result (λ answer. (s : Standing) → IsTable now self.old.sets self.old.ended s
+            → (answer ≡ (turn_by s bytes.now (chunk_head bytes.now)).0) × IsTable now self.new.sets self.new.ended (turn_by s bytes.now (chunk_head bytes.now)).1) }
         ensures err { OnErr result (IsUnchanged self.old.sets self.new.sets × IsUnchanged self.old.ended self.new.ended) }
         ensures now { self.new.now ≡ self.old.now }
     {
@@ -120,8 +120,8 @@ impl Chunks {
         part: &[u8],
     ) -> Result<Chunked, AllocError>
         requires { number < count }
-        ensures ok { IfOk result (λ answer. (s : Standing) → Keeps now self.old.sets self.old.ended s
-            → (answer ≡ (chunk_turn s id number count part.now).0) × Keeps now self.new.sets self.new.ended (chunk_turn s id number count part.now).1) }
+        ensures ok { IfOk result (λ answer. (s : Standing) → IsTable now self.old.sets self.old.ended s
+            → (answer ≡ (chunk_turn s id number count part.now).0) × IsTable now self.new.sets self.new.ended (chunk_turn s id number count part.now).1) }
         ensures err { OnErr result (IsUnchanged self.old.sets self.new.sets × IsUnchanged self.old.ended self.new.ended) }
         ensures now { self.new.now ≡ self.old.now }
     {
@@ -150,8 +150,8 @@ impl Chunks {
     /// Takes what a chunk made of the set of its id.
     fn add(&mut self, now: u64, id: u64, number: u8, grown: Grown) -> Result<Chunked, AllocError>
         requires { IfSome (get nat_cmp self.old.sets id) (λ set. (number < length set.parts) × Fits set grown) }
-        ensures ok { IfOk result (λ answer. (s : Standing) (set : ChunkSet) → Keeps now self.old.sets self.old.ended s → get nat_cmp self.old.sets id ≡ Some set
-            → (answer ≡ (grown_turn s id set number grown).0) × Keeps now self.new.sets self.new.ended (grown_turn s id set number grown).1) }
+        ensures ok { IfOk result (λ answer. (s : Standing) (set : ChunkSet) → IsTable now self.old.sets self.old.ended s → get nat_cmp self.old.sets id ≡ Some set
+            → (answer ≡ (grown_turn s id set number grown).0) × IsTable now self.new.sets self.new.ended (grown_turn s id set number grown).1) }
         ensures err { OnErr result (IsUnchanged self.old.sets self.new.sets × IsUnchanged self.old.ended self.new.ended) }
         ensures now { self.new.now ≡ self.old.now }
     {
@@ -185,8 +185,8 @@ impl Chunks {
         requires opened { set.opened ≡ now }
         requires new { while_live opened now (get nat_cmp self.old.sets id) ≡ None }
         requires room { HasRoom now self.old.sets }
-        ensures ok { IfOk result (λ answer. (s : Standing) → Keeps now self.old.sets self.old.ended s
-            → (answer ≡ (grown_turn s id set number grown).0) × Keeps now self.new.sets self.new.ended (grown_turn s id set number grown).1) }
+        ensures ok { IfOk result (λ answer. (s : Standing) → IsTable now self.old.sets self.old.ended s
+            → (answer ≡ (grown_turn s id set number grown).0) × IsTable now self.new.sets self.new.ended (grown_turn s id set number grown).1) }
         ensures err { OnErr result (IsUnchanged self.old.sets self.new.sets × IsUnchanged self.old.ended self.new.ended) }
         ensures now { self.new.now ≡ self.old.now }
     {
@@ -210,7 +210,7 @@ impl Chunks {
 
     /// A message has ended.
     fn end(&mut self, now: u64, id: u64) -> Result<(), AllocError>
-        ensures ok { OnOk result ((s : Standing) → Keeps now self.old.sets self.old.ended s → Keeps now self.new.sets self.new.ended (with_end s id)) }
+        ensures ok { OnOk result ((s : Standing) → IsTable now self.old.sets self.old.ended s → IsTable now self.new.sets self.new.ended (with_end s id)) }
         ensures err { OnErr result (IsUnchanged self.old.sets self.new.sets × IsUnchanged self.old.ended self.new.ended) }
         ensures now { self.new.now ≡ self.old.now }
     {
@@ -222,7 +222,7 @@ impl Chunks {
     /// Discards the oldest set, where it isn't live (a datagram opens one at most), and the ended messages that are old,
     /// once they are as many as others.
     fn discard(&mut self, now: u64)
-        ensures kept { (s : Standing) → Keeps now self.old.sets self.old.ended s → Keeps now self.new.sets self.new.ended s }
+        ensures kept { (s : Standing) → IsTable now self.old.sets self.old.ended s → IsTable now self.new.sets self.new.ended s }
         ensures now { self.new.now ≡ self.old.now }
     {
         self.sets.discard(now);

@@ -85,7 +85,7 @@ impl Sets {
         }
     }
 
-    /// Keeps a set that is opened now, in the place of one of its id that isn't live. Where 1,024 are kept, the oldest
+    /// IsTable a set that is opened now, in the place of one of its id that isn't live. Where 1,024 are kept, the oldest
     /// one isn't live, and goes. For want of memory nothing changes.
     pub fn open(&mut self, now: u64, id: u64, set: ChunkSet) -> Result<(), AllocError>
         requires opened { set.opened ≡ now }

@@ -16,7 +16,7 @@ use Rattle.gl_cli.specs.declared.reader.Next.TheVariants.{Line as Text, End, Too
 use Rattle.gl_cli.specs.Connections.{Connection}
 use Rattle.gl_cli.specs.Script.{lines_within, lines_run, bad_line, script_lines, script_limit, moment_after, moment_in, line_of, read_then, number_behind}
 use Rattle.gl_cli.specs.Runs.{Turn, connections_after, turns_of, turn_of, script_turns, all_events, all_text, turn_events, turn_text, answers, output, done_text, last_state}
-use Rattle.gl_cli.specs.Reading.{GivesKnown}
+use Rattle.gl_cli.specs.LineReading.{GivesKnown}
 use Rattle.gl_cli.specs.Writing.{BeginsWith, AppendsSome}
 use Rattle.gl_cli.specs.Sessions.{Running, ReadTo, Answered, CutShort, SomeAfter}
 use Rattle.gl_cli.specs.Ends.{SessionEnd, EndsBy, Wrote, AnsweredAll, script_status, status_by}

@@ -14,7 +14,7 @@ use Rattle.gl_node.specs.State.{State, state_after, happened}
 use Rattle.gl_cli.specs.declared.desk.Desk.{Desk}
 use Rattle.gl_cli.specs.declared.frames.Frames.{Frames}
 use Rattle.gl_cli.specs.Connections.{ended_frames, is_closed, new_frames}
-use Rattle.gl_cli.specs.Opened.{FramesStand, Took, frame_in}
+use Rattle.gl_cli.specs.Opened.{FramesStandFor, Took, frame_in}
 use Rattle.gl_cli.specs.Runs.{Turn, frames_turn, payload_step, turn_events}
 use Rattle.gl_cli.specs.Sessions.{DoesTurn, CutsTurn, DuringTurn, CutLeaves, payload_turn}
 use Rattle.gl_cli.proofs.Sinks.{Appends-nothing}
@@ -44,7 +44,7 @@ new_is kind before piece done e =
 pub record Served (moment : ℕ) (input peer : List ℕ) (kind : InputKind) (before piece rest : List ℕ) (frames : Frames) (old now : Desk) (from to : Option (List ℕ)) (d0 d1 : DiskState) : Type 0 where
   pub front : List ℕ
   pub whole : piece ≡ front ++ rest
-  pub stands : FramesStand kind frames (before ++ front)
+  pub stands : FramesStandFor kind frames (before ++ front)
   pub going : is_closed kind (before ++ front) ≡ false
   pub done : List (List ℕ)
   pub ended : ended_frames kind (before ++ front) ≡ ended_frames kind before ++ done
@@ -53,13 +53,13 @@ pub record Served (moment : ℕ) (input peer : List ℕ) (kind : InputKind) (bef
 
 -- nothing was taken yet
 pub served_none : (moment : ℕ) (input peer : List ℕ) (kind : InputKind) (before piece : List ℕ) (frames : Frames) (desk : Desk) (sink : Option (List ℕ)) (d : DiskState)
-    → FramesStand kind frames before → is_closed kind before ≡ false
+    → FramesStandFor kind frames before → is_closed kind before ≡ false
     → ((s : State) → Keeps desk.node s → NodeOn desk.node d → (c : Image) → d.may_leave c → StandsFor c s)
     → Served moment input peer kind before piece piece frames desk desk sink sink d d
 served_none moment input peer kind before piece frames desk sink d stands going shows = record {
   front = [];
   whole = refl;
-  stands = subst (λ (bs : List ℕ). FramesStand kind frames bs) (sym (append-nil before)) stands;
+  stands = subst (λ (bs : List ℕ). FramesStandFor kind frames bs) (sym (append-nil before)) stands;
   going = ap (λ (bs : List ℕ). is_closed kind bs) (append-nil before) ∙ going;
   done = [];
   ended = ap (λ (bs : List ℕ). ended_frames kind bs) (append-nil before) ∙ sym (append-nil (ended_frames kind before));
@@ -82,9 +82,9 @@ module _ (moment : ℕ) (input peer : List ℕ) (kind : InputKind) (before piece
       new_is kind before piece served.done (ap (λ (bs : List ℕ). ended_frames kind bs) (sym (taken_all n e)) ∙ none ∙ served.ended)
 
   pub served_all : (n : ℕ) (frames' : Frames) → n ≡ length rest → ended_frames kind ((before ++ served.front) ++ take n rest) ≡ ended_frames kind (before ++ served.front)
-      → FramesStand kind frames' ((before ++ served.front) ++ take n rest)
+      → FramesStandFor kind frames' ((before ++ served.front) ++ take n rest)
       → (closed : Bool) → is_closed kind ((before ++ served.front) ++ take n rest) ≡ closed
-      → ((closed ≡ is_closed kind (before ++ piece)) × FramesStand kind frames' (before ++ piece))
+      → ((closed ≡ is_closed kind (before ++ piece)) × FramesStandFor kind frames' (before ++ piece))
       × DoesTurn (frames_turn moment input peer (new_frames kind before piece)) old now from to
       × DuringTurn (frames_turn moment input peer (new_frames kind before piece)) old d0 d1
   served_all n frames' e none stands closed is =
@@ -93,7 +93,7 @@ module _ (moment : ℕ) (input peer : List ℕ) (kind : InputKind) (before piece
       = λ s. ap (λ (fs : List (List ℕ)). frames_turn moment input peer fs s) all in (
         (
           sym is ∙ ap (λ (bs : List ℕ). is_closed kind bs) (taken_all n e),
-          subst (λ (bs : List ℕ). FramesStand kind frames' bs) (taken_all n e) stands,
+          subst (λ (bs : List ℕ). FramesStandFor kind frames' bs) (taken_all n e) stands,
         ),
         does_as old (frames_turn moment input peer served.done) (frames_turn moment input peer (new_frames kind before piece)) (λ s kept. same s) now from to served.does,
         during_as old (frames_turn moment input peer served.done) (frames_turn moment input peer (new_frames kind before piece)) (λ s kept. same s) d0 d1 served.during,
@@ -101,9 +101,9 @@ module _ (moment : ℕ) (input peer : List ℕ) (kind : InputKind) (before piece
 
   -- by what the reader answers of the rest
   module _ (fed : Fed) (n : ℕ) (frames' : Frames)
-      (took : Took fed kind (before ++ served.front) rest n (frame_in frames') × FramesStand kind frames' ((before ++ served.front) ++ take n rest)) where
+      (took : Took fed kind (before ++ served.front) rest n (frame_in frames') × FramesStandFor kind frames' ((before ++ served.front) ++ take n rest)) where
     pub served_nothing : fed ≡ Nothing
-        → ((false ≡ is_closed kind (before ++ piece)) × FramesStand kind frames' (before ++ piece))
+        → ((false ≡ is_closed kind (before ++ piece)) × FramesStandFor kind frames' (before ++ piece))
         × DoesTurn (frames_turn moment input peer (new_frames kind before piece)) old now from to
         × DuringTurn (frames_turn moment input peer (new_frames kind before piece)) old d0 d1
     served_nothing is =
@@ -112,7 +112,7 @@ module _ (moment : ℕ) (input peer : List ℕ) (kind : InputKind) (before piece
         served_all n frames' t.0 t.1 took.1 false t.2
 
     pub served_too_long : fed ≡ TooLong
-        → ((true ≡ is_closed kind (before ++ piece)) × FramesStand kind frames' (before ++ piece))
+        → ((true ≡ is_closed kind (before ++ piece)) × FramesStandFor kind frames' (before ++ piece))
         × DoesTurn (frames_turn moment input peer (new_frames kind before piece)) old now from to
         × DuringTurn (frames_turn moment input peer (new_frames kind before piece)) old d0 d1
     served_too_long is =
@@ -138,13 +138,13 @@ module _ (moment : ℕ) (input peer : List ℕ) (kind : InputKind) (before piece
         ap (λ (bs : List ℕ). ended_frames kind bs) (sym (append_assoc before served.front (take n rest)))
         ∙ ends ∙ ap (λ (fs : List (List ℕ)). fs ++ frame ∷ []) served.ended ∙ append_assoc (ended_frames kind before) served.done (frame ∷ [])
 
-    pub served_more : (left : List ℕ) → left ≡ drop n rest → FramesStand kind frames' ((before ++ served.front) ++ take n rest) → is_closed kind ((before ++ served.front) ++ take n rest) ≡ false
+    pub served_more : (left : List ℕ) → left ≡ drop n rest → FramesStandFor kind frames' ((before ++ served.front) ++ take n rest) → is_closed kind ((before ++ served.front) ++ take n rest) ≡ false
         → DoesTurn (payload_turn moment input peer frame) now next to last → DuringTurn (payload_turn moment input peer frame) now d1 d2
         → Served moment input peer kind before piece left frames' old next from last d0 d2
     served_more left gone stands going does during = record {
       front = served.front ++ take n rest;
       whole = served.whole ∙ ap (λ (bs : List ℕ). served.front ++ bs) (sym (take-append-drop n rest)) ∙ sym (append_assoc served.front (take n rest) (drop n rest)) ∙ ap (λ (bs : List ℕ). (served.front ++ take n rest) ++ bs) (sym gone);
-      stands = subst (λ (bs : List ℕ). FramesStand kind frames' bs) (append_assoc before served.front (take n rest)) stands;
+      stands = subst (λ (bs : List ℕ). FramesStandFor kind frames' bs) (append_assoc before served.front (take n rest)) stands;
       going = ap (λ (bs : List ℕ). is_closed kind bs) (sym (append_assoc before served.front (take n rest))) ∙ going;
       done = served.done ++ frame ∷ [];
       ended = one_more;

@@ -6,7 +6,7 @@ use Rattle.std.proofs.lemmas.Bool.Decides.{eqb_tells}
 use Rattle.std.proofs.lemmas.List.Splits.{slice_split_none, slice_split_at, length-slice_split}
 use Rattle.std.proofs.Math.Seq.{take-append-add}
 use Rattle.gl_cli.specs.Script.{lines_within, all_lines, ended_lines, parts_of, but_last, last_line}
-use Rattle.gl_cli.specs.Reading.{NoNewline}
+use Rattle.gl_cli.specs.LineReading.{NoNewline}
 
 pub is_newline_not : (bytes : List ℕ) → NoNewline bytes → All (λ b. (b == 10) ≡ false) bytes
 is_newline_not bytes h = λ k d within. elim (eqb_tells (get_or bytes k d) 10) [ inl p ↦ absurd (h k d within p.1) | inr q ↦ q.0 ]

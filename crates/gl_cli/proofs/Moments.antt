@@ -24,7 +24,7 @@ use Rattle.gl_cli.specs.Connections.{Connection}
 use Rattle.gl_cli.specs.Desk.{DeskKeeps}
 use Rattle.gl_cli.specs.Crashes.{ShownAt, next_turn, told_events}
 use Rattle.gl_cli.specs.Ends.{script_status}
-use Rattle.gl_cli.specs.Reading.{GivesKnown}
+use Rattle.gl_cli.specs.LineReading.{GivesKnown}
 use Rattle.gl_cli.specs.Runs.{Turn, answered, connections_after, datagram_turn, end_turn, listed, tcp_turn, turns_of, turn_of, script_turns, all_events, all_text, turn_events, turn_text, done_text, last_state}
 use Rattle.gl_cli.specs.Script.{lines_within, lines_run, moment_after, line_of}
 use Rattle.gl_cli.specs.Sessions.{Running, Answered, CutShort, CutAt, CutsTurn, CutLeaves, DoesTurn, DuringTurn, claim_turn, finish_turn}

@@ -8,7 +8,7 @@ use Rattle.std.proofs.lemmas.List.Elements.{All-head, All-tail}
 use Rattle.std.proofs.lemmas.Slice.Eq.{bytes_eq-Decides}
 use Rattle.gl_cli.specs.declared.connections.Open.{Open}
 use Rattle.gl_cli.specs.Connections.{Connection, connection_of, forgotten, is_closed, is_of, replaced, with_sent}
-use Rattle.gl_cli.specs.Opened.{IsOpen, IsPlace, Stand, is_named}
+use Rattle.gl_cli.specs.Opened.{IsOpen, IsPlace, ConnectionsStandFor, is_named}
 
 -- ---- tests
 
@@ -48,7 +48,7 @@ apart c d e = false_by (is_of d.input d.number c) (λ same.
 
 -- ---- lists
 
-pub as_many_open : (all : List Open) (cs : List Connection) → Stand all cs → length all ≡ length cs
+pub as_many_open : (all : List Open) (cs : List Connection) → ConnectionsStandFor all cs → length all ≡ length cs
 as_many_open [] [] stand = refl
 as_many_open [] (c ∷ cs) stand = absurd stand
 as_many_open (o ∷ all) [] stand = absurd stand
@@ -61,8 +61,8 @@ any_more p (d ∷ cs) c e f =
     ap (λ (b : Bool). b || list_any p (cs ++ c ∷ [])) q.0 ∙ any_more p cs c q.1 f
 
 -- another connection behind all
-pub stand_more : (all : List Open) (cs : List Connection) (o : Open) (c : Connection) → Stand all cs → IsOpen o c
-    → All (λ (x : Open). is_named c.input c.number x ≡ false) all → Stand (all ++ o ∷ []) (cs ++ c ∷ [])
+pub stand_more : (all : List Open) (cs : List Connection) (o : Open) (c : Connection) → ConnectionsStandFor all cs → IsOpen o c
+    → All (λ (x : Open). is_named c.input c.number x ≡ false) all → ConnectionsStandFor (all ++ o ∷ []) (cs ++ c ∷ [])
 stand_more [] [] o c stand opened none = (opened, refl, tt)
 stand_more [] (d ∷ cs) o c stand opened none = absurd stand
 stand_more (x ∷ all) [] o c stand opened none = absurd stand
@@ -77,7 +77,7 @@ module _ (input : List ℕ) (number : ℕ) where
   abbrev Other : Open → Type 0
   Other o = is_named input number o ≡ false
 
-  pub none_named : (all : List Open) (cs : List Connection) → Stand all cs → All Other all → connection_of input number cs ≡ None
+  pub none_named : (all : List Open) (cs : List Connection) → ConnectionsStandFor all cs → All Other all → connection_of input number cs ≡ None
   none_named [] [] stand none = refl
   none_named [] (c ∷ cs) stand none = absurd stand
   none_named (o ∷ all) [] stand none = absurd stand
@@ -85,7 +85,7 @@ module _ (input : List ℕ) (number : ℕ) where
       ap (λ (b : Bool). cond b (Some c) (connection_of input number cs)) (sym (named_is input number o c stand.0) ∙ All-head Other o all none)
       ∙ none_named all cs stand.2 (All-tail Other o all none)
 
-  pub none_forgotten : (all : List Open) (cs : List Connection) → Stand all cs → All Other all → forgotten input number cs ≡ cs
+  pub none_forgotten : (all : List Open) (cs : List Connection) → ConnectionsStandFor all cs → All Other all → forgotten input number cs ≡ cs
   none_forgotten [] [] stand none = refl
   none_forgotten [] (c ∷ cs) stand none = absurd stand
   none_forgotten (o ∷ all) [] stand none = absurd stand
@@ -105,7 +105,7 @@ abbrev NamedAt : List ℕ → ℕ → List Open → ℕ → Type 0
 NamedAt input number all place = (d : Open) → is_named input number (get_or all place d) ≡ true
 
 module _ (input : List ℕ) (number : ℕ) where
-  found_by : (all : List Open) (cs : List Connection) (place : ℕ) (d : Open) → Stand all cs → place < length all → NamedAt input number all place
+  found_by : (all : List Open) (cs : List Connection) (place : ℕ) (d : Open) → ConnectionsStandFor all cs → place < length all → NamedAt input number all place
       → All (λ (o : Open). is_named input number o ≡ false) (take place all) → Found all cs input number (get_or all place d)
   found_by [] cs place d stand inside is first = absurd (omega arith)
   found_by (o ∷ all) [] place d stand inside is first = absurd stand
@@ -131,7 +131,7 @@ module _ (input : List ℕ) (number : ℕ) where
         number_is = more.number_is;
       }
 
-  pub place_found : (all : List Open) (cs : List Connection) (place : ℕ) (d : Open) → Stand all cs → IsPlace all input number place → Found all cs input number (get_or all place d)
+  pub place_found : (all : List Open) (cs : List Connection) (place : ℕ) (d : Open) → ConnectionsStandFor all cs → IsPlace all input number place → Found all cs input number (get_or all place d)
   place_found all cs place d stand is = found_by all cs place d stand is.inside is.is is.first
 
   -- ---- without one
@@ -158,8 +158,8 @@ module _ (input : List ℕ) (number : ℕ) where
           ap (λ (ds : List Connection). list_any p ds) (kept_or_not c cs false is)
           ∙ ap (λ (x : Bool). x || list_any p (forgotten input number cs)) pc ∙ rest
 
-  without_by : (all : List Open) (cs : List Connection) (place : ℕ) → Stand all cs → place < length all → NamedAt input number all place
-      → All (λ (o : Open). is_named input number o ≡ false) (take place all) → Stand (take place all ++ drop (suc place) all) (forgotten input number cs)
+  without_by : (all : List Open) (cs : List Connection) (place : ℕ) → ConnectionsStandFor all cs → place < length all → NamedAt input number all place
+      → All (λ (o : Open). is_named input number o ≡ false) (take place all) → ConnectionsStandFor (take place all ++ drop (suc place) all) (forgotten input number cs)
   without_by [] cs place stand inside is first = absurd (omega arith)
   without_by (o ∷ all) [] place stand inside is first = absurd stand
   without_by (o ∷ all) (c ∷ cs) zero stand inside is first =
@@ -167,18 +167,18 @@ module _ (input : List ℕ) (number : ℕ) where
       let names : (c.input ≡ input) × (c.number ≡ number) = is_of_by input number c here in
       let others : list_any (is_of input number) cs ≡ false
       = ap (λ (n : ℕ). list_any (is_of input n) cs) (sym names.1) ∙ ap (λ (bs : List ℕ). list_any (is_of bs c.number) cs) (sym names.0) ∙ stand.1 in
-      subst (λ (ds : List Connection). Stand all ds)
+      subst (λ (ds : List Connection). ConnectionsStandFor all ds)
       (sym (kept_or_not c cs true here ∙ none_without cs others)) stand.2
   without_by (o ∷ all) (c ∷ cs) (suc place) stand inside is first =
       let here : is_of input number c ≡ false
       = sym (named_is input number o c stand.0) ∙ All-head (λ (x : Open). is_named input number x ≡ false) o (take place all) first in
-      let more : Stand (take place all ++ drop (suc place) all) (forgotten input number cs)
+      let more : ConnectionsStandFor (take place all ++ drop (suc place) all) (forgotten input number cs)
       = without_by all cs place stand.2 (omega arith) is (All-tail (λ (x : Open). is_named input number x ≡ false) o (take place all) first) in
-      subst (λ (ds : List Connection). Stand (o ∷ (take place all ++ drop (suc place) all)) ds)
+      subst (λ (ds : List Connection). ConnectionsStandFor (o ∷ (take place all ++ drop (suc place) all)) ds)
       (sym (kept_or_not c cs false here))
       (stand.0, any_without (is_of c.input c.number) cs stand.1, more)
 
-  pub stand_without : (all : List Open) (cs : List Connection) (place : ℕ) → Stand all cs → IsPlace all input number place → Stand (take place all ++ drop (suc place) all) (forgotten input number cs)
+  pub stand_without : (all : List Open) (cs : List Connection) (place : ℕ) → ConnectionsStandFor all cs → IsPlace all input number place → ConnectionsStandFor (take place all ++ drop (suc place) all) (forgotten input number cs)
   stand_without all cs place stand is = without_by all cs place stand is.inside is.is is.first
 
 -- ---- one in the place of another
@@ -211,8 +211,8 @@ module _ (one : Connection) where
       let q : (is_of one.input one.number c ≡ false) × (list_any (is_of one.input one.number) cs ≡ false) = neither (is_of one.input one.number c) (list_any (is_of one.input one.number) cs) none in
       ap (λ (x : Bool). (if x then one else c) ∷ replaced one cs) q.0 ∙ ap (λ (ds : List Connection). c ∷ ds) (none_replaced cs q.1)
 
-  replaced_by : (all : List Open) (cs : List Connection) (place : ℕ) (o : Open) → Stand all cs → IsOpen o one → place < length all → NamedAt one.input one.number all place
-      → All (λ (x : Open). is_named one.input one.number x ≡ false) (take place all) → Stand (set all place o) (replaced one cs)
+  replaced_by : (all : List Open) (cs : List Connection) (place : ℕ) (o : Open) → ConnectionsStandFor all cs → IsOpen o one → place < length all → NamedAt one.input one.number all place
+      → All (λ (x : Open). is_named one.input one.number x ≡ false) (take place all) → ConnectionsStandFor (set all place o) (replaced one cs)
   replaced_by [] cs place o stand opened inside is first = absurd (omega arith)
   replaced_by (x ∷ all) [] place o stand opened inside is first = absurd stand
   replaced_by (x ∷ all) (c ∷ cs) zero o stand opened inside is first =
@@ -220,15 +220,15 @@ module _ (one : Connection) where
       let names : (c.input ≡ one.input) × (c.number ≡ one.number) = is_of_by one.input one.number c here in
       let others : list_any (is_of one.input one.number) cs ≡ false
       = ap (λ (n : ℕ). list_any (is_of one.input n) cs) (sym names.1) ∙ ap (λ (bs : List ℕ). list_any (is_of bs c.number) cs) (sym names.0) ∙ stand.1 in
-      subst (λ (ds : List Connection). Stand (o ∷ all) ds)
+      subst (λ (ds : List Connection). ConnectionsStandFor (o ∷ all) ds)
       (sym (ap (λ (b : Bool). (if b then one else c) ∷ replaced one cs) here ∙ ap (λ (ds : List Connection). one ∷ ds) (none_replaced cs others)))
       (opened, others, stand.2)
   replaced_by (x ∷ all) (c ∷ cs) (suc place) o stand opened inside is first =
       let here : is_of one.input one.number c ≡ false
       = sym (named_is one.input one.number x c stand.0) ∙ All-head (λ (y : Open). is_named one.input one.number y ≡ false) x (take place all) first in
-      let more : Stand (set all place o) (replaced one cs)
+      let more : ConnectionsStandFor (set all place o) (replaced one cs)
       = replaced_by all cs place o stand.2 opened (omega arith) is (All-tail (λ (y : Open). is_named one.input one.number y ≡ false) x (take place all) first) in
-      subst (λ (ds : List Connection). Stand (x ∷ set all place o) ds)
+      subst (λ (ds : List Connection). ConnectionsStandFor (x ∷ set all place o) ds)
       (sym (ap (λ (b : Bool). (if b then one else c) ∷ replaced one cs) here))
       (stand.0, any_replaced c.input c.number cs ∙ stand.1, more)
 
@@ -242,8 +242,8 @@ sent_number peer payload c true = refl
 sent_number peer payload c false = refl
 
 -- the one at a place was sent something
-pub stand_sent : (all : List Open) (cs : List Connection) (input : List ℕ) (number place : ℕ) (peer payload : List ℕ) (c : Connection) (o : Open) → Stand all cs → IsPlace all input number place
-    → c.input ≡ input → c.number ≡ number → IsOpen o (with_sent peer payload c) → Stand (set all place o) (replaced (with_sent peer payload c) cs)
+pub stand_sent : (all : List Open) (cs : List Connection) (input : List ℕ) (number place : ℕ) (peer payload : List ℕ) (c : Connection) (o : Open) → ConnectionsStandFor all cs → IsPlace all input number place
+    → c.input ≡ input → c.number ≡ number → IsOpen o (with_sent peer payload c) → ConnectionsStandFor (set all place o) (replaced (with_sent peer payload c) cs)
 stand_sent all cs input number place peer payload c o stand is p q opened =
     let one : Connection = with_sent peer payload c in
     let i : input ≡ one.input = sym (sent_input peer payload c (is_closed c.kind c.bytes) ∙ p) in

@@ -18,7 +18,7 @@ use Rattle.gl_lines.specs.Reader.{ReaderView, StandsFor, IsAnswer, IsLast, told}
 use Rattle.gl_cli.specs.declared.frames.Frames.{Frames}
 use Rattle.gl_cli.specs.declared.frames.Frames.TheVariants.{Zero, Lines}
 use Rattle.gl_cli.specs.Connections.{ended_frames, is_closed, last_frame}
-use Rattle.gl_cli.specs.Opened.{Ended, FramesStand, LinesStand, Took}
+use Rattle.gl_cli.specs.Opened.{Ended, FramesStandFor, LinesStandFor, Took}
 
 -- nothing was sent, so no frame was too long
 pub begins_open : (kind : InputKind) → is_closed kind [] ≡ false
@@ -29,7 +29,7 @@ begins_open Syslog = refl
 
 -- ---- parts between zero bytes
 
-pub zero_stands : (kind : InputKind) (z : ZeroView) (bytes : List ℕ) → FramesStand kind (Zero z) bytes → zeros.Stands z bytes
+pub zero_stands : (kind : InputKind) (z : ZeroView) (bytes : List ℕ) → FramesStandFor kind (Zero z) bytes → zeros.StandsFor z bytes
 zero_stands Gelf z bytes stands = stands
 zero_stands Raw z bytes stands = absurd stands
 zero_stands Syslog z bytes stands = absurd stands
@@ -45,8 +45,8 @@ zero_feeds TooLong frame given piece n f =
 zero_feeds Closed frame given piece n f = f.1
 
 pub zero_took : (kind : InputKind) (old new : ZeroView) (bytes piece : List ℕ) (n : ℕ) (fed : Fed)
-    → ((given : List ℕ) → zeros.Stands old given → zeros.Takes new given piece n fed)
-    → FramesStand kind (Zero old) bytes → Took fed kind bytes piece n (new.frame) × FramesStand kind (Zero new) (bytes ++ take n piece)
+    → ((given : List ℕ) → zeros.StandsFor old given → zeros.Takes new given piece n fed)
+    → FramesStandFor kind (Zero old) bytes → Took fed kind bytes piece n (new.frame) × FramesStandFor kind (Zero new) (bytes ++ take n piece)
 zero_took Gelf old new bytes piece n fed takes stands =
     let t = takes bytes stands in (zero_feeds fed (new.frame) bytes piece n t.feeds, t.stands)
 zero_took Raw old new bytes piece n fed takes stands = absurd stands
@@ -59,7 +59,7 @@ fed_within TooLong frame given piece n f = omega (arith, f.0)
 fed_within Closed frame given piece n f = omega (arith, f.0)
 
 pub zero_within : (kind : InputKind) (old new : ZeroView) (bytes piece : List ℕ) (n : ℕ) (fed : Fed)
-    → ((given : List ℕ) → zeros.Stands old given → zeros.Takes new given piece n fed) → FramesStand kind (Zero old) bytes → n ≤ length piece
+    → ((given : List ℕ) → zeros.StandsFor old given → zeros.Takes new given piece n fed) → FramesStandFor kind (Zero old) bytes → n ≤ length piece
 zero_within kind old new bytes piece n fed takes stands =
     fed_within fed (new.frame) bytes piece n (takes bytes (zero_stands kind old bytes stands)).feeds
 
@@ -69,8 +69,8 @@ zero_last Whole z given frame e = absurd e
 zero_last TooLong z given frame e = refl
 zero_last Closed z given frame e = refl
 
-pub zero_ended : (kind : InputKind) (old new : ZeroView) (bytes frame : List ℕ) (fed : Fed) → ((given : List ℕ) → zeros.Stands old given → zeros.IsEnd fed new given)
-    → FramesStand kind (Zero old) bytes → Ended fed (last_frame kind bytes) frame
+pub zero_ended : (kind : InputKind) (old new : ZeroView) (bytes frame : List ℕ) (fed : Fed) → ((given : List ℕ) → zeros.StandsFor old given → zeros.IsEnd fed new given)
+    → FramesStandFor kind (Zero old) bytes → Ended fed (last_frame kind bytes) frame
 zero_ended Gelf old new bytes frame fed ends stands = zero_last fed new bytes frame (ends bytes stands)
 zero_ended Raw old new bytes frame fed ends stands = absurd stands
 zero_ended Syslog old new bytes frame fed ends stands = absurd stands
@@ -129,7 +129,7 @@ abbrev pub GoOn : Type 0
 GoOn = (counts : Bool) (bytes : List ℕ) (frames : List (ℕ × List ℕ)) (rest : Option (List ℕ)) → Framed counts bytes frames rest
     → (more : List ℕ) → (later : List (List ℕ)) × (line_frames counts (bytes ++ more) ≡ line_frames counts bytes ++ later)
 
-pub new_lines : (counts : Bool) (reader : ReaderView) → reader.counts ≡ counts → StandsFor reader [] [] → LinesStand counts reader []
+pub new_lines : (counts : Bool) (reader : ReaderView) → reader.counts ≡ counts → StandsFor reader [] [] → LinesStandFor counts reader []
 new_lines counts reader e stands = (e, ([], stands))
 
 abbrev texts : List (ℕ × List ℕ) → List (List ℕ)
@@ -138,7 +138,7 @@ texts frames = map {B = List ℕ} (λ f. f.1) frames
 texts-more : (xs ys : List (ℕ × List ℕ)) → texts (xs ++ ys) ≡ texts xs ++ texts ys
 texts-more xs ys = map-append {B = List ℕ} (λ f. f.1) xs ys
 
-module _ (frames_are : FramesAre) (closed_is : ClosedIs) (counts : Bool) (reader : ReaderView) (bytes : List ℕ) (stands : LinesStand counts reader bytes) where
+module _ (frames_are : FramesAre) (closed_is : ClosedIs) (counts : Bool) (reader : ReaderView) (bytes : List ℕ) (stands : LinesStandFor counts reader bytes) where
   line_texts : texts stands.1.0 ≡ line_frames counts bytes
   line_texts = frames_are reader.counts bytes stands.1.0 reader.rest stands.1.1 ∙ ap (λ (c : Bool). line_frames c bytes) stands.0
 
@@ -152,7 +152,7 @@ module _ (frames_are : FramesAre) (closed_is : ClosedIs) (counts : Bool) (reader
   line_shut none = is (has_long_line counts bytes) (sym (ap (λ (o : Option (List ℕ)). is_some o) none) ∙ line_closed)
 
 lines_by : (frames_are : FramesAre) (closed_is : ClosedIs) (counts : Bool) (old new : ReaderView) (bytes piece : List ℕ) (n : ℕ) (fed : Fed)
-    → (was : LinesStand counts old bytes) (now : LinesStand counts new (bytes ++ take n piece)) → now.1.0 ≡ was.1.0 ++ told fed (length bytes + n) new.frame
+    → (was : LinesStandFor counts old bytes) (now : LinesStandFor counts new (bytes ++ take n piece)) → now.1.0 ≡ was.1.0 ++ told fed (length bytes + n) new.frame
     → IsAnswer fed old.rest new.rest new.frame n (length piece) → TookBy fed (line_frames counts) (has_long_line counts) bytes piece n new.frame
 lines_by frames_are closed_is counts old new bytes piece n Nothing was now e answer = (
   answer.2,
@@ -181,14 +181,14 @@ TakesLines old new piece n fed = (bytes : List ℕ) (frames : List (ℕ × List 
 
 module _ (frames_are : FramesAre) (closed_is : ClosedIs) (old new : ReaderView) (bytes piece : List ℕ) (n : ℕ) (fed : Fed) (same : new.counts ≡ old.counts)
     (takes : TakesLines old new piece n fed) (answer : IsAnswer fed old.rest new.rest new.frame n (length piece)) where
-  stand_on : (counts : Bool) → LinesStand counts old bytes → LinesStand counts new (bytes ++ take n piece)
+  stand_on : (counts : Bool) → LinesStandFor counts old bytes → LinesStandFor counts new (bytes ++ take n piece)
   stand_on counts was = (same ∙ was.0, (was.1.0 ++ told fed (length bytes + n) new.frame, takes bytes was.1.0 was.1.1))
 
-  lines_feed : (counts : Bool) (was : LinesStand counts old bytes) → TookBy fed (line_frames counts) (has_long_line counts) bytes piece n new.frame
+  lines_feed : (counts : Bool) (was : LinesStandFor counts old bytes) → TookBy fed (line_frames counts) (has_long_line counts) bytes piece n new.frame
   unfolding stand_on
   lines_feed counts was = lines_by frames_are closed_is counts old new bytes piece n fed was (stand_on counts was) refl answer
 
-  pub lines_took : (kind : InputKind) → FramesStand kind (Lines old) bytes → Took fed kind bytes piece n new.frame × FramesStand kind (Lines new) (bytes ++ take n piece)
+  pub lines_took : (kind : InputKind) → FramesStandFor kind (Lines old) bytes → Took fed kind bytes piece n new.frame × FramesStandFor kind (Lines new) (bytes ++ take n piece)
   lines_took Gelf stands = absurd stands
   lines_took Raw stands = (took_raw fed bytes piece n new.frame (lines_feed false stands), stand_on false stands)
   lines_took Syslog stands = (took_syslog fed bytes piece n new.frame (lines_feed true stands), stand_on true stands)
@@ -209,7 +209,7 @@ rest_ended : (counts : Bool) (rest after : Option (List ℕ)) (fed : Fed) (frame
 rest_ended counts None after fed frame e = subst (λ (f : Fed). Ended f [] frame) (sym e.0) refl
 rest_ended counts (Some rest) after fed frame e = last_ended (framing.last_frame counts rest) fed frame e.1
 
-lines_last : (last_is : LastIs) (counts : Bool) (old new : ReaderView) (bytes : List ℕ) (fed : Fed) → EndsLines old new fed → LinesStand counts old bytes
+lines_last : (last_is : LastIs) (counts : Bool) (old new : ReaderView) (bytes : List ℕ) (fed : Fed) → EndsLines old new fed → LinesStandFor counts old bytes
     → Ended fed (last_line_frame counts bytes) new.frame
 lines_last last_is counts old new bytes fed ends stands =
     subst (λ (l : List (List ℕ)). Ended fed l new.frame)
@@ -217,21 +217,21 @@ lines_last last_is counts old new bytes fed ends stands =
     (rest_ended old.counts old.rest new.rest fed new.frame ends)
 
 pub lines_ended : (last_is : LastIs) (kind : InputKind) (old new : ReaderView) (bytes : List ℕ) (fed : Fed) → EndsLines old new fed
-    → FramesStand kind (Lines old) bytes → Ended fed (last_frame kind bytes) new.frame
+    → FramesStandFor kind (Lines old) bytes → Ended fed (last_frame kind bytes) new.frame
 lines_ended last_is Gelf old new bytes fed ends stands = absurd stands
 lines_ended last_is Raw old new bytes fed ends stands = lines_last last_is false old new bytes fed ends stands
 lines_ended last_is Syslog old new bytes fed ends stands = lines_last last_is true old new bytes fed ends stands
 
 -- ---- more bytes
 
-lines_on : (go_on : GoOn) (counts : Bool) (reader : ReaderView) (bytes more : List ℕ) → LinesStand counts reader bytes
+lines_on : (go_on : GoOn) (counts : Bool) (reader : ReaderView) (bytes more : List ℕ) → LinesStandFor counts reader bytes
     → (later : List (List ℕ)) × (line_frames counts (bytes ++ more) ≡ line_frames counts bytes ++ later)
 lines_on go_on counts reader bytes more stands =
     subst (λ (c : Bool). (later : List (List ℕ)) × (line_frames c (bytes ++ more) ≡ line_frames c bytes ++ later)) stands.0
     (go_on reader.counts bytes stands.1.0 reader.rest stands.1.1 more)
 
 pub frames_on : (begin : (bytes more : List ℕ) → (later : List (List ℕ)) × (frames_of (bytes ++ more) ≡ frames_of bytes ++ later)) (go_on : GoOn)
-    (kind : InputKind) (frames : Frames) (bytes : List ℕ) → FramesStand kind frames bytes
+    (kind : InputKind) (frames : Frames) (bytes : List ℕ) → FramesStandFor kind frames bytes
     → (more : List ℕ) → (later : List (List ℕ)) × (ended_frames kind (bytes ++ more) ≡ ended_frames kind bytes ++ later)
 frames_on begin go_on Gelf (Zero z) bytes stands more = begin bytes more
 frames_on begin go_on Raw (Zero z) bytes stands more = absurd stands

@@ -5,7 +5,7 @@ use Rattle.std.proofs.lemmas.List.{take-append-le, take-append-drop}
 use Rattle.std.proofs.Math.Seq.{drop-cons}
 use Rattle.std.specs.Io.KnownBytes.{Keeps, Consumes, IsAtEnd, prepend_known}
 use Rattle.gl_cli.specs.declared.reader.Next.TheVariants.{Line, End, TooLong}
-use Rattle.gl_cli.specs.Reading.{NoNewline, IsNewlineAt, Gives, GivesKnown}
+use Rattle.gl_cli.specs.LineReading.{NoNewline, IsNewlineAt, Gives, GivesKnown}
 use Rattle.gl_cli.proofs.Lines.{lines_within-line, lines_within-last, lines_within-none, lines_within-long}
 
 pub Gives-line : (budget : ℕ) (line more : List ℕ) → NoNewline line → length line < budget → Gives (Line line) (line ++ 10 ∷ more) budget more (budget - (length line + 1))

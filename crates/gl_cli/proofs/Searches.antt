@@ -4,7 +4,7 @@ use Rattle.std.proofs.Common.{◌∙◌, ap, sym, subst, arith, length-take, len
 use Rattle.std.proofs.lemmas.Grind.{common_steps}
 use Rattle.std.proofs.lemmas.List.{get_or-take, get_or-drop, take_min}
 use Rattle.std.proofs.lemmas.List.Elements.{All-append}
-use Rattle.gl_cli.specs.Reading.{NoNewline, IsNewlineAt, IsSearched}
+use Rattle.gl_cli.specs.LineReading.{NoNewline, IsNewlineAt, IsSearched}
 
 pub drop_on : (start searched : ℕ) (bytes : List ℕ) → start ≤ searched → drop (searched - start) (drop start bytes) ≡ drop searched bytes
 drop_on start searched bytes h = grind (arith, common_steps)

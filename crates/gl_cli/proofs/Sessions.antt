@@ -18,7 +18,7 @@ use Rattle.gl_cli.specs.declared.reader.Next.TheVariants.{Line as Text}
 use Rattle.gl_cli.specs.Connections.{Connection}
 use Rattle.gl_cli.specs.Script.{lines_within, lines_run, bad_line, moment_after, moment_in, line_of, read_then, number_behind}
 use Rattle.gl_cli.specs.Runs.{Turn, connections_after, turns_of, turn_of, all_events, all_text, turn_events, turn_text}
-use Rattle.gl_cli.specs.Reading.{GivesKnown}
+use Rattle.gl_cli.specs.LineReading.{GivesKnown}
 use Rattle.gl_cli.specs.Sessions.{Running, Answered, CutShort, CutAt, DoesTurn, CutsTurn, DuringTurn, CutLeaves, Follows, StandFor, With}
 use Rattle.gl_cli.proofs.Sinks.{Appends-more}
 

@@ -6,7 +6,7 @@ pub mod Desk
 pub mod Ends
 pub mod Opened
 pub mod Parsing
-pub mod Reading
+pub mod LineReading
 pub mod Runs
 pub mod Script
 pub mod Sessions

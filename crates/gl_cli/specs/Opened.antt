@@ -14,15 +14,15 @@ use Rattle.gl_cli.specs.declared.connections.Open.{Open}
 use Rattle.gl_cli.specs.Connections.{Connection, ended_frames, is_closed, is_of}
 
 -- a reader of lines was given these bytes
-abbrev pub LinesStand : Bool → ReaderView → List ℕ → Type 0
-LinesStand counts reader bytes = (reader.counts ≡ counts) × ((frames : List (ℕ × List ℕ)) × StandsFor reader bytes frames)
+abbrev pub LinesStandFor : Bool → ReaderView → List ℕ → Type 0
+LinesStandFor counts reader bytes = (reader.counts ≡ counts) × ((frames : List (ℕ × List ℕ)) × StandsFor reader bytes frames)
 
 -- a reader of the frames of this kind was given these bytes
-abbrev pub FramesStand : InputKind → Frames → List ℕ → Type 0
-FramesStand Gelf (Zero z) bytes = zero.Stands z bytes
-FramesStand Raw (Lines reader) bytes = LinesStand false reader bytes
-FramesStand Syslog (Lines reader) bytes = LinesStand true reader bytes
-FramesStand kind frames bytes = ⊥
+abbrev pub FramesStandFor : InputKind → Frames → List ℕ → Type 0
+FramesStandFor Gelf (Zero z) bytes = zero.StandsFor z bytes
+FramesStandFor Raw (Lines reader) bytes = LinesStandFor false reader bytes
+FramesStandFor Syslog (Lines reader) bytes = LinesStandFor true reader bytes
+FramesStandFor kind frames bytes = ⊥
 
 -- the frame that is lent
 abbrev pub frame_in : Frames → List ℕ
@@ -46,12 +46,12 @@ Ended other last frame = last ≡ []
 
 -- by each kind and all bytes that a reader stands for, where no frame was too long
 abbrev pub ForReader : Frames → (InputKind → List ℕ → Type 0) → Type 0
-ForReader frames P = (kind : InputKind) (before : List ℕ) → FramesStand kind frames before → is_closed kind before ≡ false → P kind before
+ForReader frames P = (kind : InputKind) (before : List ℕ) → FramesStandFor kind frames before → is_closed kind before ≡ false → P kind before
 
 pub record SomeReader (frames : Frames) : Type 0 where
   pub kind : InputKind
   pub before : List ℕ
-  pub stands : FramesStand kind frames before
+  pub stands : FramesStandFor kind frames before
   pub going : is_closed kind before ≡ false
 
 -- an open connection is what this one was sent
@@ -61,7 +61,7 @@ pub record IsOpen (o : Open) (c : Connection) : Type 0 where
   pub peer : o.peer ≡ c.peer
   pub some_peer : 0 < length c.peer
   pub short_peer : length c.peer ≤ 255
-  pub frames : FramesStand c.kind o.frames c.bytes
+  pub frames : FramesStandFor c.kind o.frames c.bytes
   pub closed : o.closed ≡ is_closed c.kind c.bytes
 
 -- a connection that was sent nothing
@@ -79,8 +79,8 @@ pub record IsPlace (all : List Open) (input : List ℕ) (number place : ℕ) : T
   pub first : All (λ o. is_named input number o ≡ false) (take place all)
 
 -- so are all, one for one, and no two have one input and number
-abbrev pub Stand : List Open → List Connection → Type 0
-Stand [] [] = ⊤
-Stand [] (c ∷ cs) = ⊥
-Stand (o ∷ all) [] = ⊥
-Stand (o ∷ all) (c ∷ cs) = IsOpen o c × (list_any (is_of c.input c.number) cs ≡ false) × Stand all cs
+abbrev pub ConnectionsStandFor : List Open → List Connection → Type 0
+ConnectionsStandFor [] [] = ⊤
+ConnectionsStandFor [] (c ∷ cs) = ⊥
+ConnectionsStandFor (o ∷ all) [] = ⊥
+ConnectionsStandFor (o ∷ all) (c ∷ cs) = IsOpen o c × (list_any (is_of c.input c.number) cs ≡ false) × ConnectionsStandFor all cs

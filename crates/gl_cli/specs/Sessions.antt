@@ -20,13 +20,13 @@ use Rattle.gl_cli.specs.Connections.{Connection}
 use Rattle.gl_cli.specs.Crashes.{told_events}
 use Rattle.gl_cli.specs.Desk.{DeskKeeps}
 use Rattle.gl_cli.specs.Script.{lines_within, lines_run, bad_line, script_lines, script_limit, moment_after, last_moment}
-use Rattle.gl_cli.specs.Opened.{Stand}
+use Rattle.gl_cli.specs.Opened.{ConnectionsStandFor}
 use Rattle.gl_cli.specs.Runs.{Turn, answered, connections_after, payload_step, turns_of, script_turns, all_events, all_text, turn_events, turn_text}
 use Rattle.gl_cli.specs.Writing.{BeginsWith}
 
 -- a desk keeps a state, and connections stand for what they were sent
 abbrev pub StandFor : Desk → Connections → State → List Connection → Type 0
-StandFor desk connections s cs = DeskKeeps desk s × Stand connections.all.items cs
+StandFor desk connections s cs = DeskKeeps desk s × ConnectionsStandFor connections.all.items cs
 
 -- something stands for a state and connections of which this holds
 abbrev pub SomeAfter : (State → List Connection → Type 0) → (State → List Connection → Type 0) → Type 0
@@ -118,8 +118,8 @@ CutLeaves turn desk before now old new =
 
 -- The same by each list that the connections stand for: it is a line's turn with these connections.
 abbrev pub With : Connections → (List Connection → Type 0) → Type 0
-With connections P = (cs : List Connection) → Stand connections.all.items cs → P cs
+With connections P = (cs : List Connection) → ConnectionsStandFor connections.all.items cs → P cs
 
 -- after a line they stand for what it leaves of the list
 abbrev pub Follows : Line → Desk → Connections → Connections → Type 0
-Follows line desk old new = (cs : List Connection) → Stand old.all.items cs → (s : State) → DeskKeeps desk s → Stand new.all.items (connections_after s cs line)
+Follows line desk old new = (cs : List Connection) → ConnectionsStandFor old.all.items cs → (s : State) → DeskKeeps desk s → ConnectionsStandFor new.all.items (connections_after s cs line)

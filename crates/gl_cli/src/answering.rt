@@ -7,7 +7,7 @@ ghost use Rattle.gl_node.specs.Node.{Keeps, NodeOn, NodeReady, store_of};
 ghost use Rattle.gl_node.specs.State.{State, outcomes};
 ghost use Rattle.gl_cli.specs.Desk.{DeskKeeps};
 ghost use Rattle.gl_cli.specs.Connections.{Connection};
-ghost use Rattle.gl_cli.specs.Opened.{Stand};
+ghost use Rattle.gl_cli.specs.Opened.{ConnectionsStandFor};
 ghost use Rattle.gl_cli.specs.Runs.{done_text, listed, turn_of};
 ghost use Rattle.gl_cli.specs.Sessions.{DoesTurn, CutsTurn, DuringTurn, CutLeaves, Follows, IsFit, With, claim_turn, finish_turn, outcomes_text};
 ghost use Rattle.gl_cli.specs.Statuses.{IsSinkStatus, IsLineStatus};
@@ -152,7 +152,7 @@ pub fn answer_line<D: Disk, K: Sink>(
 ) -> Result<(), Status>
     requires moment { moment ≤ 253402300799999 }
     requires fit { IsFit line.now }
-    requires connections { (cs : List Connection) × Stand connections.old.all.items cs }
+    requires connections { (cs : List Connection) × ConnectionsStandFor connections.old.all.items cs }
     requires keeps { (s : State) × DeskKeeps desk.old s }
     requires ready { Tells (D.state disk.old) → NodeReady desk.old.node (D.state disk.old) }
     ensures answered { OnOk result (With connections.old (λ cs. DoesTurn (turn_of moment cs false line.now) desk.old desk.new (K.contents sink.old) (K.contents sink.new))) }

@@ -9,7 +9,7 @@ ghost use Rattle.gl_fields.specs.declared.input_kind.InputKind.{InputKind};
 ghost use Rattle.gl_cli.specs.Answers.{words_text, arrival_words};
 ghost use Rattle.gl_cli.specs.Connections.{Connection, is_closed, new_frames, with_sent};
 ghost use Rattle.gl_cli.specs.Desk.{DeskKeeps};
-ghost use Rattle.gl_cli.specs.Opened.{ForReader, FramesStand, IsOpen, SomeReader, Stand, is_named};
+ghost use Rattle.gl_cli.specs.Opened.{ForReader, FramesStandFor, IsOpen, SomeReader, ConnectionsStandFor, is_named};
 ghost use Rattle.gl_cli.specs.Runs.{begun_turn, datagram_turn, end_turn, frames_turn, refused_turn, sent_connections, sent_turn, tcp_turn, tcp_turn_by, turn_text};
 ghost use Rattle.gl_cli.specs.Sessions.{DoesTurn, CutsTurn, DuringTurn, CutLeaves, Follows, With, payload_turn};
 ghost use Rattle.gl_cli.specs.Statuses.{IsSinkStatus, IsLineStatus};
@@ -128,7 +128,7 @@ fn answer_frames<D: Disk, K: Sink>(
     requires reader { SomeReader frames.old }
     requires keeps { (s : State) × DeskKeeps desk.old s }
     requires ready { Tells (D.state disk.old) → NodeReady desk.old.node (D.state disk.old) }
-    ensures reader { IfOk result (λ closed. ForReader frames.old (λ kind before. (closed ≡ is_closed kind (before ++ piece.now)) × FramesStand kind frames.new (before ++ piece.now))) }
+    ensures reader { IfOk result (λ closed. ForReader frames.old (λ kind before. (closed ≡ is_closed kind (before ++ piece.now)) × FramesStandFor kind frames.new (before ++ piece.now))) }
     ensures answered { OnOk result (ForReader frames.old (λ kind before. DoesTurn (frames_turn moment input.now peer.now (new_frames kind before piece.now)) desk.old desk.new (K.contents sink.old) (K.contents sink.new))) }
     ensures cut { OnErr result (ForReader frames.old (λ kind before. CutsTurn (frames_turn moment input.now peer.now (new_frames kind before piece.now)) desk.old (K.contents sink.old) (K.contents sink.new))) }
     ensures ready { Tells (D.state disk.old) → OnOk result (NodeReady desk.new.node (D.state disk.new)) }
@@ -281,11 +281,11 @@ fn answer_first<D: Disk, K: Sink>(
     requires moment { moment ≤ 253402300799999 }
     requires some_peer { 0 < length peer.now }
     requires short_peer { length peer.now ≤ 255 }
-    requires connections { (cs : List Connection) × Stand connections.old.all.items cs }
+    requires connections { (cs : List Connection) × ConnectionsStandFor connections.old.all.items cs }
     requires none { All (λ o. is_named input.now number o ≡ false) connections.old.all.items }
     requires keeps { (s : State) × DeskKeeps desk.old s }
     requires ready { Tells (D.state disk.old) → NodeReady desk.old.node (D.state disk.old) }
-    ensures connections { OnOk result (With connections.old (λ cs. Stand connections.new.all.items (sent_connections (Some kind) None cs input.now number peer.now piece.now))) }
+    ensures connections { OnOk result (With connections.old (λ cs. ConnectionsStandFor connections.new.all.items (sent_connections (Some kind) None cs input.now number peer.now piece.now))) }
     ensures answered { OnOk result (With connections.old (λ cs. DoesTurn (tcp_turn_by (Some kind) None moment cs input.now peer.now piece.now) desk.old desk.new (K.contents sink.old) (K.contents sink.new))) }
     ensures cut { OnErr result (With connections.old (λ cs. CutsTurn (tcp_turn_by (Some kind) None moment cs input.now peer.now piece.now) desk.old (K.contents sink.old) (K.contents sink.new))) }
     ensures ready { Tells (D.state disk.old) → OnOk result (NodeReady desk.new.node (D.state disk.new)) }
@@ -338,7 +338,7 @@ pub fn answer_sent<D: Disk, K: Sink>(
     requires moment { moment ≤ 253402300799999 }
     requires some_peer { 0 < length peer.now }
     requires short_peer { length peer.now ≤ 255 }
-    requires connections { (cs : List Connection) × Stand connections.old.all.items cs }
+    requires connections { (cs : List Connection) × ConnectionsStandFor connections.old.all.items cs }
     requires keeps { (s : State) × DeskKeeps desk.old s }
     requires ready { Tells (D.state disk.old) → NodeReady desk.old.node (D.state disk.old) }
     ensures connections { OnOk result (Follows (lines.Tcp input.now number peer.now piece.now) desk.old connections.old connections.new) }
@@ -391,7 +391,7 @@ pub fn answer_end<D: Disk, K: Sink>(
     number: u32,
 ) -> Result<(), Status>
     requires moment { moment ≤ 253402300799999 }
-    requires connections { (cs : List Connection) × Stand connections.old.all.items cs }
+    requires connections { (cs : List Connection) × ConnectionsStandFor connections.old.all.items cs }
     requires keeps { (s : State) × DeskKeeps desk.old s }
     requires ready { Tells (D.state disk.old) → NodeReady desk.old.node (D.state disk.old) }
     ensures connections { OnOk result (Follows (lines.End input.now number) desk.old connections.old connections.new) }

@@ -1,7 +1,7 @@
 // The connections of a session.
 ghost use Rattle.std.specs.Prelude.{◌≡◌, ◌≤◌, ◌<◌, [], false, length, nat_le, IfOk, MatchOption, All};
 ghost use Rattle.gl_cli.specs.Connections.{most_connections};
-ghost use Rattle.gl_cli.specs.Opened.{IsOpen, IsPlace, Stand, begun, is_named};
+ghost use Rattle.gl_cli.specs.Opened.{IsOpen, IsPlace, ConnectionsStandFor, begun, is_named};
 
 use crate::frames::Frames;
 use gl_base::Text;
@@ -61,7 +61,7 @@ impl Open {
 
 impl Connections {
     pub fn new(alloc: Global) -> Connections
-        ensures { Stand result.all.items [] }
+        ensures { ConnectionsStandFor result.all.items [] }
     {
         Connections {
             all: Vec::new(alloc),

@@ -2,7 +2,7 @@
 ghost use Rattle.std.specs.Prelude.{◌≡◌, ◌≤◌, ◌++◌, ℕ, List, [], length, take, IfOk};
 ghost use Rattle.gl_fields.specs.declared.input_kind.InputKind.{InputKind};
 ghost use Rattle.gl_cli.specs.Connections.{ended_frames, last_frame};
-ghost use Rattle.gl_cli.specs.Opened.{FramesStand, Took, Ended, frame_in};
+ghost use Rattle.gl_cli.specs.Opened.{FramesStandFor, Took, Ended, frame_in};
 
 use gl_base::Fed;
 use gl_fields::InputKind;
@@ -20,7 +20,7 @@ pub enum Frames {
 impl Frames {
     /// A reader at the start of a connection. It reserves room for the longest frame.
     pub fn new(alloc: Global, kind: InputKind) -> Result<Frames, AllocError>
-        ensures { IfOk result (λ frames. FramesStand kind frames []) }
+        ensures { IfOk result (λ frames. FramesStandFor kind frames []) }
     {
         match kind {
             InputKind::Gelf => Ok(Frames::Zero(ZeroFrames::new(alloc)?)),
@@ -31,10 +31,10 @@ impl Frames {
 
     /// Takes bytes from the front of a piece until a frame ends, and says how many it took.
     pub fn take(&mut self, piece: &[u8]) -> (usize, Fed)
-        requires { (kind : InputKind) × (bytes : List ℕ) × FramesStand kind self.old bytes }
+        requires { (kind : InputKind) × (bytes : List ℕ) × FramesStandFor kind self.old bytes }
         ensures within { result.0 ≤ length piece.now }
-        ensures took { (kind : InputKind) (bytes : List ℕ) → FramesStand kind self.old bytes
-            → Took result.1 kind bytes piece.now result.0 (frame_in self.new) × FramesStand kind self.new (bytes ++ take result.0 piece.now) }
+        ensures took { (kind : InputKind) (bytes : List ℕ) → FramesStandFor kind self.old bytes
+            → Took result.1 kind bytes piece.now result.0 (frame_in self.new) × FramesStandFor kind self.new (bytes ++ take result.0 piece.now) }
     {
         law_frames_of_bytes();
         match self {
@@ -55,8 +55,8 @@ impl Frames {
 
     /// Ends the connection: a rest of a line that isn't empty is its last frame.
     pub fn end(&mut self) -> Fed
-        requires { (kind : InputKind) × (bytes : List ℕ) × FramesStand kind self.old bytes }
-        ensures { (kind : InputKind) (bytes : List ℕ) → FramesStand kind self.old bytes → Ended result (last_frame kind bytes) (frame_in self.new) }
+        requires { (kind : InputKind) × (bytes : List ℕ) × FramesStandFor kind self.old bytes }
+        ensures { (kind : InputKind) (bytes : List ℕ) → FramesStandFor kind self.old bytes → Ended result (last_frame kind bytes) (frame_in self.new) }
     {
         law_frames_of_bytes();
         match self {
@@ -68,7 +68,7 @@ impl Frames {
 
 /// More bytes of a connection give further frames, and change none that ended before.
 pub fn law_frames_go_on(frames: &Frames)
-    ensures { (kind : InputKind) (bytes : List ℕ) → FramesStand kind frames.now bytes
+    ensures { (kind : InputKind) (bytes : List ℕ) → FramesStandFor kind frames.now bytes
         → (more : List ℕ) → (later : List (List ℕ)) × (ended_frames kind (bytes ++ more) ≡ ended_frames kind bytes ++ later) }
 {
     law_frames_of_bytes();

@@ -2,7 +2,7 @@ ghost use Rattle.std.specs.Prelude.{◌≡◌, ◌^◌, ◌<◌, ◌≤◌, ◌�
 ghost use Rattle.std.specs.Bool.{IsFalse};
 ghost use Rattle.std.specs.Io.KnownBytes.{Keeps, IsAtEnd, prepend_known};
 ghost use Rattle.gl_base.specs.Counts.{HasCause};
-ghost use Rattle.gl_cli.specs.Reading.{NoNewline, IsNewlineAt, GivesKnown, IsLine};
+ghost use Rattle.gl_cli.specs.LineReading.{NoNewline, IsNewlineAt, GivesKnown, IsLine};
 
 use crate::waiting::Waiting;
 use gl_base::Items;

@@ -1,6 +1,6 @@
 // The bytes of a script that came in and weren't given yet.
 ghost use Rattle.std.specs.Prelude.{◌≡◌, ◌+◌, ◌<◌, ◌++◌, [], length, take, drop, IfOk, OnOk, MatchOption};
-ghost use Rattle.gl_cli.specs.Reading.{NoNewline, IsNewlineAt};
+ghost use Rattle.gl_cli.specs.LineReading.{NoNewline, IsNewlineAt};
 
 use gl_base::Items;
 use std::alloc::{AllocError, Global};
@@ -19,7 +19,7 @@ pub struct Waiting {
 
 impl Model for Waiting {
     ghost use Rattle.std.specs.Prelude.{List, ℕ, drop};
-    ghost use Rattle.gl_cli.specs.Reading.{IsSearched};
+    ghost use Rattle.gl_cli.specs.LineReading.{IsSearched};
 
     ghost Value = { List ℕ };
 

@@ -25,7 +25,7 @@ use Rattle.gl_commands.specs.declared.command.RuleParts.{RuleParts}
 use Rattle.gl_commands.specs.declared.command.Command.{Command}
 use Rattle.gl_commands.specs.declared.command.Command.TheVariants.{CreateInput, SetExtractors, CreateIndexSet, CreateStream, SetStream, CreateRule, SetRule, CreatePipeline, SetPipeline, Connect, CreateLookup, SetLookup, CreateGrok, SetGrok, CreateUser, SetUser}
 use Rattle.gl_commands.specs.Texts.{kind_name, test_name, converter_name, id_data, rule_data, condition_data, extractor_data, command_data, IsNumber, IsId, KindHasNumbers, HasNumbers}
-use Rattle.gl_commands.specs.Reading.{kind_named, test_named, converter_named, in_range, each_of, converter_in, id_in, rule_in, condition_keys, condition_in, regex_in, substring_in, split_in, unless_target, grok_kind_in, extractor_kind_in, extractor_in, input_in, extractors_in, index_set_in, stream_in, setting_in, connection_in, table_parts, grok_parts, user_parts, keys_in}
+use Rattle.gl_commands.specs.CommandReading.{kind_named, test_named, converter_named, in_range, each_of, converter_in, id_in, rule_in, condition_keys, condition_in, regex_in, substring_in, split_in, unless_target, grok_kind_in, extractor_kind_in, extractor_in, input_in, extractors_in, index_set_in, stream_in, setting_in, connection_in, table_parts, grok_parts, user_parts, keys_in}
 
 kind_back : (kind : InputKind) → kind_named (kind_name kind) ≡ Some kind
 unfolding kind_named

@@ -9,7 +9,7 @@ use Rattle.serde_json.specs.Data.{Data}
 use Rattle.serde_json.specs.Read.{read, max_depth}
 use Rattle.gl_commands.specs.declared.command.Command.{Command}
 use Rattle.gl_commands.specs.Texts.{command_data, command_bytes, IsCommand}
-use Rattle.gl_commands.specs.Reading.{keys_in, command_of, command_in, unless_long, unless_other}
+use Rattle.gl_commands.specs.CommandReading.{keys_in, command_of, command_in, unless_long, unless_other}
 use Rattle.gl_commands.proofs.Back.{keys_back}
 use Rattle.gl_commands.proofs.Numbered.{keys_have_numbers}
 use Rattle.gl_commands.proofs.Options.{of_some, of_one, of_test, of_refusal, none_unless}

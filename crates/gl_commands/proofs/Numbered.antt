@@ -18,7 +18,7 @@ use Rattle.gl_text.specs.Ids.{is_id, is_hex_digit, read_id}
 use Rattle.gl_commands.specs.declared.command.Command.{Command}
 use Rattle.gl_commands.specs.declared.command.Command.TheVariants.{CreateInput, SetExtractors, CreateIndexSet, CreateStream, SetStream, CreateRule, SetRule, CreatePipeline, SetPipeline, Connect, CreateLookup, SetLookup, CreateGrok, SetGrok, CreateUser, SetUser}
 use Rattle.gl_commands.specs.Texts.{extractor_data, command_data, IsNumber, IsId, KindHasNumbers, HasNumbers}
-use Rattle.gl_commands.specs.Reading.{kind_named, at, said_at, number_at, list_at, width, unless_more, each_of, in_range, as_whole, converter_in, id_in, rule_in, condition_in, regex_in, substring_in, split_in, unless_target, grok_kind_in, extractor_kinds, extractor_kind_in, extractor_in, of_kind, input_in, extractors_in, index_set_in, stream_in, setting_in, connection_in, table_parts, grok_parts, user_parts, command_kinds, keys_in}
+use Rattle.gl_commands.specs.CommandReading.{kind_named, at, said_at, number_at, list_at, width, unless_more, each_of, in_range, as_whole, converter_in, id_in, rule_in, condition_in, regex_in, substring_in, split_in, unless_target, grok_kind_in, extractor_kinds, extractor_kind_in, extractor_in, of_kind, input_in, extractors_in, index_set_in, stream_in, setting_in, connection_in, table_parts, grok_parts, user_parts, command_kinds, keys_in}
 use Rattle.gl_commands.proofs.Options.{of_some, of_one, of_two, of_three, of_four, of_five, of_test, of_refusal}
 
 number_is : (d : Data) (key : List ℕ) (n : ℕ) → number_at key d ≡ Some n → IsNumber n

@@ -2,7 +2,7 @@
 ghost use Rattle.std.specs.Prelude.{◌≡◌, codes};
 ghost use Rattle.serde_json.specs.View.{view};
 ghost use Rattle.gl_commands.specs.Texts.{extractor_data};
-ghost use Rattle.gl_commands.specs.Reading.{at, list_at, extractor_in, extractor_kind_in, extractor_kinds, of_kind, regex_in, substring_in, split_in, unless_target, grok_kind_in, condition_in, condition_keys, width, Reads};
+ghost use Rattle.gl_commands.specs.CommandReading.{at, list_at, extractor_in, extractor_kind_in, extractor_kinds, of_kind, regex_in, substring_in, split_in, unless_target, grok_kind_in, condition_in, condition_keys, width, Reads};
 
 use crate::keys::{bool_at, key_count, number_at, str_at, text_at, values_at};
 use crate::lists::converters_at;
@@ -23,7 +23,7 @@ pub fn extractors_at(alloc: Global, value: &Value) -> Result<Items<ExtractorPart
     Ok(extractors)
 }
 
-#[tactic(auto, unfolding(crate::specs::Reading::extractor_in))]
+#[tactic(auto, unfolding(crate::specs::CommandReading::extractor_in))]
 fn extractor_from(alloc: Global, value: &Value) -> Result<ExtractorParts, Unread>
     ensures { Reads result (extractor_in (view value.now)) }
 {
@@ -51,7 +51,7 @@ fn extractor_keys(extractor: &ExtractorParts) -> usize
     }
 }
 
-#[tactic(auto, unfolding(crate::specs::Reading::extractor_kind_in))]
+#[tactic(auto, unfolding(crate::specs::CommandReading::extractor_kind_in))]
 fn kind_from(alloc: Global, value: &Value) -> Result<ExtractorKind, Unread>
     ensures { Reads result (extractor_kind_in (view value.now)) }
 {
@@ -65,7 +65,7 @@ fn kind_from(alloc: Global, value: &Value) -> Result<ExtractorKind, Unread>
     }
 }
 
-#[tactic(auto, unfolding(crate::specs::Reading::regex_in))]
+#[tactic(auto, unfolding(crate::specs::CommandReading::regex_in))]
 fn regex_from(alloc: Global, value: &Value) -> Result<ExtractorKind, Unread>
     ensures { Reads result (regex_in (view value.now)) }
 {
@@ -74,7 +74,7 @@ fn regex_from(alloc: Global, value: &Value) -> Result<ExtractorKind, Unread>
     Ok(ExtractorKind::Regex { pattern, target })
 }
 
-#[tactic(auto, unfolding(crate::specs::Reading::substring_in))]
+#[tactic(auto, unfolding(crate::specs::CommandReading::substring_in))]
 fn substring_from(alloc: Global, value: &Value) -> Result<ExtractorKind, Unread>
     ensures { Reads result (substring_in (view value.now)) }
 {
@@ -84,7 +84,7 @@ fn substring_from(alloc: Global, value: &Value) -> Result<ExtractorKind, Unread>
     Ok(ExtractorKind::Substring { begin, end, target })
 }
 
-#[tactic(auto, unfolding(crate::specs::Reading::split_in))]
+#[tactic(auto, unfolding(crate::specs::CommandReading::split_in))]
 fn split_from(alloc: Global, value: &Value) -> Result<ExtractorKind, Unread>
     ensures { Reads result (split_in (view value.now)) }
 {
@@ -94,7 +94,7 @@ fn split_from(alloc: Global, value: &Value) -> Result<ExtractorKind, Unread>
     Ok(ExtractorKind::Split { by, index, target })
 }
 
-#[tactic(auto, unfolding(crate::specs::Reading::grok_kind_in))]
+#[tactic(auto, unfolding(crate::specs::CommandReading::grok_kind_in))]
 fn grok_from(alloc: Global, value: &Value) -> Result<ExtractorKind, Unread>
     ensures { Reads result (grok_kind_in (view value.now)) }
 {
@@ -103,7 +103,7 @@ fn grok_from(alloc: Global, value: &Value) -> Result<ExtractorKind, Unread>
 }
 
 /// The kind, where the value tells no target.
-#[tactic(auto, unfolding(crate::specs::Reading::unless_target))]
+#[tactic(auto, unfolding(crate::specs::CommandReading::unless_target))]
 fn unless_target(value: &Value, kind: ExtractorKind) -> Result<ExtractorKind, Unread>
     ensures { Reads result (unless_target (view value.now) kind) }
 {
@@ -123,7 +123,7 @@ fn condition_at(alloc: Global, value: &Value) -> Result<Condition, Unread>
     }
 }
 
-#[tactic(auto, unfolding(crate::specs::Reading::condition_in))]
+#[tactic(auto, unfolding(crate::specs::CommandReading::condition_in))]
 fn condition_from(alloc: Global, value: &Value) -> Result<Condition, Unread>
     ensures { Reads result (condition_in (view value.now)) }
 {
@@ -136,7 +136,7 @@ fn condition_from(alloc: Global, value: &Value) -> Result<Condition, Unread>
     condition_keys(alloc, value)
 }
 
-#[tactic(auto, unfolding(crate::specs::Reading::condition_keys))]
+#[tactic(auto, unfolding(crate::specs::CommandReading::condition_keys))]
 fn condition_keys(alloc: Global, value: &Value) -> Result<Condition, Unread>
     ensures { Reads result (condition_keys (view value.now)) }
 {

@@ -3,7 +3,7 @@ ghost use Rattle.std.specs.Prelude.{◌≡◌, option_map};
 ghost use Rattle.gl_text.specs.Ids.{read_id};
 ghost use Rattle.serde_json.specs.Find.{as_str, as_bool, as_array};
 ghost use Rattle.serde_json.specs.View.{view, items_view};
-ghost use Rattle.gl_commands.specs.Reading.{at, as_whole, said_at, number_at, kind_named, test_named, width, Gives, Reads};
+ghost use Rattle.gl_commands.specs.CommandReading.{at, as_whole, said_at, number_at, kind_named, test_named, width, Gives, Reads};
 
 use crate::TestKind;
 use crate::names::{kind_named, test_named};

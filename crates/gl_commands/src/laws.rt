@@ -2,7 +2,7 @@
 ghost use Rattle.std.specs.Prelude.{◌≡◌, ◌↔◌, ℕ, List, Some};
 ghost use Rattle.gl_commands.specs.declared.command.Command.{Command};
 ghost use Rattle.gl_commands.specs.Texts.{command_bytes, IsCommand};
-ghost use Rattle.gl_commands.specs.Reading.{command_in};
+ghost use Rattle.gl_commands.specs.CommandReading.{command_in};
 
 /// Law: the command that a text keeps is the one whose own text it is, byte for byte, and each command that may be kept is
 /// kept by its own text.

@@ -1,7 +1,7 @@
 //! What an administrator tells the server: commands of sixteen kinds, and the one text in which each is kept.
 //!
 //! A command comes as a JSON value, `command_from`, and is kept as a text, `encode_command`, of which `decode_command` gives
-//! it back. `specs/Texts` says which object a command is, which text that has, and which commands may be kept; `specs/Reading`
+//! it back. `specs/Texts` says which object a command is, which text that has, and which commands may be kept; `specs/CommandReading`
 //! reads a value by its keys, and a text as the command whose text it is, byte for byte. Each call gives exactly that.
 //! `law_one_command` says the same of texts and commands alone, both ways.
 #![tactic(auto)]

@@ -1,7 +1,7 @@
 // Lists of texts, of ids and of converters.
 ghost use Rattle.serde_json.specs.Find.{as_str};
 ghost use Rattle.serde_json.specs.View.{view};
-ghost use Rattle.gl_commands.specs.Reading.{list_at, id_in, converter_in, Reads};
+ghost use Rattle.gl_commands.specs.CommandReading.{list_at, id_in, converter_in, Reads};
 
 use crate::keys::values_at;
 use crate::names::converter_named;
@@ -35,7 +35,7 @@ pub fn ids_at(alloc: Global, value: &Value, key: &str) -> Result<Items<u64>, Unr
     Ok(ids)
 }
 
-#[tactic(auto, unfolding(crate::specs::Reading::id_in))]
+#[tactic(auto, unfolding(crate::specs::CommandReading::id_in))]
 fn id_in(value: &Value) -> Result<u64, Unread>
     ensures { Reads result (id_in (view value.now)) }
 {
@@ -54,7 +54,7 @@ pub fn converters_at(alloc: Global, value: &Value, key: &str) -> Result<Items<Co
     Ok(converters)
 }
 
-#[tactic(auto, unfolding(crate::specs::Reading::converter_in))]
+#[tactic(auto, unfolding(crate::specs::CommandReading::converter_in))]
 fn converter_in(value: &Value) -> Result<Converter, Unread>
     ensures { Reads result (converter_in (view value.now)) }
 {

@@ -1,7 +1,7 @@
 // The names of what an enumeration has.
 ghost use Rattle.std.specs.Prelude.{◌≡◌};
 ghost use Rattle.gl_commands.specs.Texts.{kind_name, test_name, converter_name};
-ghost use Rattle.gl_commands.specs.Reading.{kind_named, test_named, converter_named};
+ghost use Rattle.gl_commands.specs.CommandReading.{kind_named, test_named, converter_named};
 
 use crate::TestKind;
 use gl_extract::Converter;
@@ -43,7 +43,7 @@ pub fn converter_name(converter: Converter) -> &'static str
     }
 }
 
-#[tactic(auto, unfolding(crate::specs::Reading::kind_named))]
+#[tactic(auto, unfolding(crate::specs::CommandReading::kind_named))]
 pub fn kind_named(name: &str) -> Option<InputKind>
     ensures { result ≡ kind_named name.now }
 {
@@ -55,7 +55,7 @@ pub fn kind_named(name: &str) -> Option<InputKind>
     }
 }
 
-#[tactic(auto, unfolding(crate::specs::Reading::test_named))]
+#[tactic(auto, unfolding(crate::specs::CommandReading::test_named))]
 pub fn test_named(name: &str) -> Option<TestKind>
     ensures { result ≡ test_named name.now }
 {
@@ -71,7 +71,7 @@ pub fn test_named(name: &str) -> Option<TestKind>
     }
 }
 
-#[tactic(auto, unfolding(crate::specs::Reading::converter_named))]
+#[tactic(auto, unfolding(crate::specs::CommandReading::converter_named))]
 pub fn converter_named(name: &str) -> Option<Converter>
     ensures { result ≡ converter_named name.now }
 {

@@ -2,7 +2,7 @@
 ghost use Rattle.std.specs.Prelude.{◌≡◌, drop, IfOk};
 ghost use Rattle.serde_json.specs.View.{view};
 ghost use Rattle.gl_commands.specs.Texts.{command_data};
-ghost use Rattle.gl_commands.specs.Reading.{of_kind, command_kinds, input_in, extractors_in, index_set_in, stream_in, setting_in, connection_in, table_parts, grok_parts, user_parts, keys_in, width, Reads};
+ghost use Rattle.gl_commands.specs.CommandReading.{of_kind, command_kinds, input_in, extractors_in, index_set_in, stream_in, setting_in, connection_in, table_parts, grok_parts, user_parts, keys_in, width, Reads};
 
 use crate::Command;
 use crate::extractors::extractors_at;
@@ -25,7 +25,7 @@ pub fn keys_from(alloc: Global, value: &Value) -> Result<Option<Command>, AllocE
     }
 }
 
-#[tactic(auto, unfolding(crate::specs::Reading::keys_in))]
+#[tactic(auto, unfolding(crate::specs::CommandReading::keys_in))]
 fn command_from(alloc: Global, value: &Value) -> Result<Command, Unread>
     ensures { Reads result (keys_in (view value.now)) }
 {
@@ -155,7 +155,7 @@ fn of_last_kind(alloc: Global, kind: &str, value: &Value) -> Result<Command, Unr
     }
 }
 
-#[tactic(auto, unfolding(crate::specs::Reading::input_in))]
+#[tactic(auto, unfolding(crate::specs::CommandReading::input_in))]
 fn input_from(alloc: Global, value: &Value) -> Result<Command, Unread>
     ensures { Reads result (input_in (view value.now)) }
 {
@@ -165,7 +165,7 @@ fn input_from(alloc: Global, value: &Value) -> Result<Command, Unread>
     })
 }
 
-#[tactic(auto, unfolding(crate::specs::Reading::extractors_in))]
+#[tactic(auto, unfolding(crate::specs::CommandReading::extractors_in))]
 fn extractors_from(alloc: Global, value: &Value) -> Result<Command, Unread>
     ensures { Reads result (extractors_in (view value.now)) }
 {
@@ -175,7 +175,7 @@ fn extractors_from(alloc: Global, value: &Value) -> Result<Command, Unread>
     })
 }
 
-#[tactic(auto, unfolding(crate::specs::Reading::index_set_in))]
+#[tactic(auto, unfolding(crate::specs::CommandReading::index_set_in))]
 fn index_set_from(alloc: Global, value: &Value) -> Result<Command, Unread>
     ensures { Reads result (index_set_in (view value.now)) }
 {
@@ -187,7 +187,7 @@ fn index_set_from(alloc: Global, value: &Value) -> Result<Command, Unread>
     })
 }
 
-#[tactic(auto, unfolding(crate::specs::Reading::stream_in))]
+#[tactic(auto, unfolding(crate::specs::CommandReading::stream_in))]
 fn stream_from(alloc: Global, value: &Value) -> Result<Command, Unread>
     ensures { Reads result (stream_in (view value.now)) }
 {
@@ -200,7 +200,7 @@ fn stream_from(alloc: Global, value: &Value) -> Result<Command, Unread>
     })
 }
 
-#[tactic(auto, unfolding(crate::specs::Reading::setting_in))]
+#[tactic(auto, unfolding(crate::specs::CommandReading::setting_in))]
 fn setting_from(alloc: Global, value: &Value) -> Result<Command, Unread>
     ensures { Reads result (setting_in (view value.now)) }
 {
@@ -213,7 +213,7 @@ fn setting_from(alloc: Global, value: &Value) -> Result<Command, Unread>
     })
 }
 
-#[tactic(auto, unfolding(crate::specs::Reading::connection_in))]
+#[tactic(auto, unfolding(crate::specs::CommandReading::connection_in))]
 fn connection_from(alloc: Global, value: &Value) -> Result<Command, Unread>
     ensures { Reads result (connection_in (view value.now)) }
 {
@@ -224,7 +224,7 @@ fn connection_from(alloc: Global, value: &Value) -> Result<Command, Unread>
 }
 
 /// Name, text, key's column and value's column.
-#[tactic(auto, unfolding(crate::specs::Reading::table_parts))]
+#[tactic(auto, unfolding(crate::specs::CommandReading::table_parts))]
 fn table_parts(alloc: Global, value: &Value) -> Result<(Text, Text, Text, Text), Unread>
     ensures { Reads result (table_parts (view value.now)) }
 {
@@ -236,7 +236,7 @@ fn table_parts(alloc: Global, value: &Value) -> Result<(Text, Text, Text, Text),
 }
 
 /// Name and pattern.
-#[tactic(auto, unfolding(crate::specs::Reading::grok_parts))]
+#[tactic(auto, unfolding(crate::specs::CommandReading::grok_parts))]
 fn grok_parts(alloc: Global, value: &Value) -> Result<(Text, Text), Unread>
     ensures { Reads result (grok_parts (view value.now)) }
 {
@@ -246,7 +246,7 @@ fn grok_parts(alloc: Global, value: &Value) -> Result<(Text, Text), Unread>
 }
 
 /// Name, hash of the token, whether it is an administrator, and streams.
-#[tactic(auto, unfolding(crate::specs::Reading::user_parts))]
+#[tactic(auto, unfolding(crate::specs::CommandReading::user_parts))]
 fn user_parts(alloc: Global, value: &Value) -> Result<(Text, Text, bool, Items<u64>), Unread>
     ensures { Reads result (user_parts (view value.now)) }
 {

@@ -2,7 +2,7 @@
 ghost use Rattle.std.specs.Prelude.{◌≡◌, codes, IfOk};
 ghost use Rattle.serde_json.specs.View.{view};
 ghost use Rattle.gl_commands.specs.Texts.{rule_data, list_data};
-ghost use Rattle.gl_commands.specs.Reading.{list_at, rule_in, Reads};
+ghost use Rattle.gl_commands.specs.CommandReading.{list_at, rule_in, Reads};
 
 use crate::RuleParts;
 use crate::keys::{bool_at, key_count, test_at, text_at, values_at};
@@ -26,7 +26,7 @@ pub fn rules_at(alloc: Global, value: &Value) -> Result<Items<RuleParts>, Unread
     Ok(rules)
 }
 
-#[tactic(auto, unfolding(crate::specs::Reading::rule_in))]
+#[tactic(auto, unfolding(crate::specs::CommandReading::rule_in))]
 fn rule_from(alloc: Global, value: &Value) -> Result<RuleParts, Unread>
     ensures { Reads result (rule_in (view value.now)) }
 {

@@ -2,7 +2,7 @@
 ghost use Rattle.std.specs.Prelude.{◌≡◌, ◌↔◌, IsTrue, IfOk, IfSome, IsUtf8};
 ghost use Rattle.serde_json.specs.View.{view};
 ghost use Rattle.gl_commands.specs.Texts.{command_bytes, IsCommand};
-ghost use Rattle.gl_commands.specs.Reading.{command_of, command_in};
+ghost use Rattle.gl_commands.specs.CommandReading.{command_of, command_in};
 
 use crate::Command;
 use crate::reading::keys_from;

@@ -13,7 +13,7 @@ use Rattle.gl_json.specs.Escapes.{Says, text_of, said, text_or_nothing}
 use Rattle.gl_json.specs.Flattening.{IsKept, kept_text, kept_number, kept_true, kept_false, kept_array, AreFlatWith, ended, kept, skipped, nested, IsFlatIn, AreFlat, Flattens}
 use Rattle.gl_json.specs.Grammar.{Value, Pair, IsObject, IsObjectText}
 use Rattle.gl_json.specs.Places.{object_of}
-use Rattle.gl_json.specs.Reading.{elements_at, member_at, value_at}
+use Rattle.gl_json.specs.JsonReading.{elements_at, member_at, value_at}
 use Rattle.gl_json.specs.Views.{field_view}
 use Rattle.gl_extract.specs.Objects.{member_fields, members_fields, of_members, nested_fields, of_object, object_fields}
 use Rattle.gl_extract.specs.Views.{field_of, field_of_pair}

@@ -12,7 +12,7 @@ use Rattle.gl_json.specs.Grammar.{Value, text, number, yes_, no_, null, object, 
 use Rattle.gl_json.specs.Escapes.{said}
 use Rattle.gl_json.specs.Flattening.{number_field}
 use Rattle.gl_json.specs.Places.{object_of}
-use Rattle.gl_json.specs.Reading.{elements_at, member_at, value_at}
+use Rattle.gl_json.specs.JsonReading.{elements_at, member_at, value_at}
 
 abbrev pub one : List ℕ → Held → List Field
 one name value = record { name = name; value = value } ∷ []

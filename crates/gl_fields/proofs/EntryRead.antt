@@ -15,7 +15,7 @@ use Rattle.gl_fields.specs.declared.entry.Message.{Message as Payload}
 use Rattle.gl_fields.specs.Entries.{short_text, long_text, kind_sign, front_bytes, entry_bytes}
 use Rattle.gl_fields.specs.Bounds.{IsText, IsPayload, IsEntry}
 use Rattle.gl_fields.specs.Units.{◌>>=◌, byte_at, number_at, short_text_at, long_text_at, are_any, whole, Answers}
-use Rattle.gl_fields.specs.Reading.{kind_of, kind_at, received_at, message_at, origin_message_at, command_at, payload_at, origin_payload_at, entry_at, entry_of}
+use Rattle.gl_fields.specs.EntryReading.{kind_of, kind_at, received_at, message_at, origin_message_at, command_at, payload_at, origin_payload_at, entry_at, entry_of}
 use Rattle.gl_fields.proofs.Taking.{bind_ok, guard_ok, ok_is, IsBytes, all_bytes, Takes, Takes-then, IsWithin, wide16, wide64, byte_takes, byte_again, number_takes, number_again, short_takes, short_again, long_takes, long_again}
 
 text_is : (most : ℕ) (text : List ℕ) → IsWithin 1 most (length text) → IsUtf8 text → IsText most text

@@ -16,7 +16,7 @@ use Rattle.gl_fields.specs.Entries.{short_text, long_text}
 use Rattle.gl_fields.specs.Outcomes.{value_bytes, field_bytes}
 use Rattle.gl_fields.specs.Fields.{comes_before, is_name_byte, is_field_name, is_text, value_text, field_size, counted_size, IsValue, IsField, Rises}
 use Rattle.gl_fields.specs.Units.{◌>>=◌, byte_at, number_at, text_at, long_text_at}
-use Rattle.gl_fields.specs.Reading.{text_value_at, whole_value_at, value_at, name_at, is_taken, named_at, field_at}
+use Rattle.gl_fields.specs.EntryReading.{text_value_at, whole_value_at, value_at, name_at, is_taken, named_at, field_at}
 use Rattle.gl_fields.proofs.Taking.{bind_ok, guard_ok, ok_is, IsBytes, Takes, Takes-then, IsWithin, wide64, byte_takes, byte_again, number_takes, number_again, text_takes, text_again, long_takes, long_again}
 use Rattle.gl_fields.proofs.Growing.{Rises-push, Rises-before}
 use Rattle.gl_fields.proofs.Setting.{Fine, fine, none-from, Before}

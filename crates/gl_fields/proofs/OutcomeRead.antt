@@ -17,7 +17,7 @@ use Rattle.gl_fields.specs.Fields.{Rises, IsField, IsFieldMap}
 use Rattle.gl_fields.specs.Outcomes.{field_bytes, cause_bytes, outcome_bytes}
 use Rattle.gl_fields.specs.Bounds.{IsStored, IsCause, IsOutcome}
 use Rattle.gl_fields.specs.Units.{◌>>=◌, byte_at, number_at, many_at, Answers}
-use Rattle.gl_fields.specs.Reading.{id_at, field_at, stored_at, plain_cause, not_json_at, cause_at, undecodable_at, outcome_at, outcome_of}
+use Rattle.gl_fields.specs.EntryReading.{id_at, field_at, stored_at, plain_cause, not_json_at, cause_at, undecodable_at, outcome_at, outcome_of}
 use Rattle.gl_fields.proofs.Taking.{bind_ok, guard_ok, ok_is, IsBytes, Takes, Takes-then, IsWithin, IsNumber, wide16, wide32, wide64, byte_takes, byte_again, number_takes, number_again}
 use Rattle.gl_fields.proofs.Growing.{Rises-push, Rises-before}
 use Rattle.gl_fields.proofs.Many.{Grew, many_take, many_again}

@@ -5,5 +5,5 @@ pub mod Outcomes
 pub mod Peers
 pub mod Places
 pub mod Putting
-pub mod Reading
+pub mod EntryReading
 pub mod Units

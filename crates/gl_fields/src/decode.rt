@@ -4,7 +4,7 @@ ghost use Rattle.gl_fields.specs.declared.entry.Entry.{Entry};
 ghost use Rattle.gl_fields.specs.Entries.{entry_bytes};
 ghost use Rattle.gl_fields.specs.Bounds.{IsEntry};
 ghost use Rattle.gl_fields.specs.Units.{Answers, Gives};
-ghost use Rattle.gl_fields.specs.Reading.{kind_of, kind_at, received_at, message_at, origin_message_at, command_at, payload_at, origin_payload_at, entry_at, entry_of};
+ghost use Rattle.gl_fields.specs.EntryReading.{kind_of, kind_at, received_at, message_at, origin_message_at, command_at, payload_at, origin_payload_at, entry_at, entry_of};
 
 use crate::limits::{LAST_MOMENT, MAX_COMMAND, MAX_INPUT, MAX_PAYLOAD, MAX_PEER};
 use crate::units::{self, Unread};
@@ -34,7 +34,7 @@ pub fn decode_entry(alloc: Global, bytes: &[u8]) -> Result<Entry, EntryRefusal>
     whole_entry(alloc, bytes)
 }
 
-#[tactic(auto, unfolding(crate::specs::Reading::entry_of))]
+#[tactic(auto, unfolding(crate::specs::EntryReading::entry_of))]
 fn whole_entry(alloc: Global, bytes: &[u8]) -> Result<Entry, EntryRefusal>
     ensures { Answers result (entry_of bytes.now) }
 {
@@ -58,7 +58,7 @@ pub fn not_an_entry(bytes: &[u8], left: usize) -> EntryRefusal
     }
 }
 
-#[tactic(auto, unfolding(crate::specs::Reading::entry_at))]
+#[tactic(auto, unfolding(crate::specs::EntryReading::entry_at))]
 fn entry_at(alloc: Global, bytes: &[u8]) -> Result<(Entry, &[u8]), Unread>
     ensures { Gives (λ x. (x.0, x.1.now)) result (entry_at bytes.now) }
 {
@@ -72,7 +72,7 @@ fn entry_at(alloc: Global, bytes: &[u8]) -> Result<(Entry, &[u8]), Unread>
     origin_payload_at(alloc, rest)
 }
 
-#[tactic(auto, unfolding(crate::specs::Reading::command_at))]
+#[tactic(auto, unfolding(crate::specs::EntryReading::command_at))]
 fn command_at(alloc: Global, bytes: &[u8]) -> Result<(Entry, &[u8]), Unread>
     ensures { Gives (λ x. (x.0, x.1.now)) result (command_at bytes.now) }
 {
@@ -80,7 +80,7 @@ fn command_at(alloc: Global, bytes: &[u8]) -> Result<(Entry, &[u8]), Unread>
     Ok((Entry::Admin(Items::from_slice(alloc, command)?), rest))
 }
 
-#[tactic(auto, unfolding(crate::specs::Reading::payload_at))]
+#[tactic(auto, unfolding(crate::specs::EntryReading::payload_at))]
 fn payload_at(alloc: Global, bytes: &[u8]) -> Result<(Entry, &[u8]), Unread>
     ensures { Gives (λ x. (x.0, x.1.now)) result (payload_at bytes.now) }
 {
@@ -88,7 +88,7 @@ fn payload_at(alloc: Global, bytes: &[u8]) -> Result<(Entry, &[u8]), Unread>
     Ok((Entry::Message(message), rest))
 }
 
-#[tactic(auto, unfolding(crate::specs::Reading::origin_payload_at))]
+#[tactic(auto, unfolding(crate::specs::EntryReading::origin_payload_at))]
 fn origin_payload_at(alloc: Global, bytes: &[u8]) -> Result<(Entry, &[u8]), Unread>
     ensures { Gives (λ x. (x.0, x.1.now)) result (origin_payload_at bytes.now) }
 {
@@ -97,7 +97,7 @@ fn origin_payload_at(alloc: Global, bytes: &[u8]) -> Result<(Entry, &[u8]), Unre
 }
 
 // A message in the first format.
-#[tactic(auto, unfolding(crate::specs::Reading::message_at))]
+#[tactic(auto, unfolding(crate::specs::EntryReading::message_at))]
 fn message_at(alloc: Global, bytes: &[u8]) -> Result<(Message, &[u8]), Unread>
     ensures { Gives (λ x. (x.0, x.1.now)) result (message_at bytes.now) }
 {
@@ -107,7 +107,7 @@ fn message_at(alloc: Global, bytes: &[u8]) -> Result<(Message, &[u8]), Unread>
 }
 
 // A message in the second format.
-#[tactic(auto, unfolding(crate::specs::Reading::origin_message_at))]
+#[tactic(auto, unfolding(crate::specs::EntryReading::origin_message_at))]
 fn origin_message_at(alloc: Global, bytes: &[u8]) -> Result<(Message, &[u8]), Unread>
     ensures { Gives (λ x. (x.0, x.1.now)) result (origin_message_at bytes.now) }
 {
@@ -118,7 +118,7 @@ fn origin_message_at(alloc: Global, bytes: &[u8]) -> Result<(Message, &[u8]), Un
     received_at(alloc, input, peer, Some(Origin { kind, port }), rest)
 }
 
-#[tactic(auto, unfolding(crate::specs::Reading::kind_at))]
+#[tactic(auto, unfolding(crate::specs::EntryReading::kind_at))]
 fn kind_at(bytes: &[u8]) -> Result<(InputKind, &[u8]), Unread>
     ensures { Gives (λ x. (x.0, x.1.now)) result (kind_at bytes.now) }
 {
@@ -137,7 +137,7 @@ fn kind_of(sign: u8) -> InputKind
 }
 
 // A message of this input, peer and origin, from its moment on.
-#[tactic(auto, unfolding(crate::specs::Reading::received_at))]
+#[tactic(auto, unfolding(crate::specs::EntryReading::received_at))]
 fn received_at(
     alloc: Global,
     input: Text,

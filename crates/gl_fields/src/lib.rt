@@ -5,7 +5,7 @@
 //! say the first rule that this would break. The encoders give exactly the bytes that `specs/Entries` and
 //! `specs/Outcomes` define, and within the bounds of `specs/Bounds` no two entries and no two outcomes
 //! have the same bytes. The decoders read just those bytes back; of any others they say the place that
-//! `specs/Reading` gives: that of the first part that isn't lawful behind those before it.
+//! `specs/EntryReading` gives: that of the first part that isn't lawful behind those before it.
 #![tactic(auto)]
 
 mod decode;

@@ -7,7 +7,7 @@ ghost use Rattle.gl_fields.specs.Fields.{comes_before, counted_size, Rises};
 ghost use Rattle.gl_fields.specs.Outcomes.{outcome_bytes};
 ghost use Rattle.gl_fields.specs.Bounds.{IsOutcome};
 ghost use Rattle.gl_fields.specs.Units.{Answers, Gives, many_at};
-ghost use Rattle.gl_fields.specs.Reading.{id_at, text_value_at, whole_value_at, value_at, name_at, is_taken, named_at, field_at, stored_at, plain_cause, not_json_at, cause_at, undecodable_at, outcome_at, outcome_of};
+ghost use Rattle.gl_fields.specs.EntryReading.{id_at, text_value_at, whole_value_at, value_at, name_at, is_taken, named_at, field_at, stored_at, plain_cause, not_json_at, cause_at, undecodable_at, outcome_at, outcome_of};
 
 use crate::decode::not_an_entry;
 use crate::units::{self, Unread};
@@ -34,7 +34,7 @@ pub fn decode_outcome(alloc: Global, bytes: &[u8]) -> Result<Outcome, EntryRefus
     whole_outcome(alloc, bytes)
 }
 
-#[tactic(auto, unfolding(crate::specs::Reading::outcome_of))]
+#[tactic(auto, unfolding(crate::specs::EntryReading::outcome_of))]
 fn whole_outcome(alloc: Global, bytes: &[u8]) -> Result<Outcome, EntryRefusal>
     ensures { Answers result (outcome_of bytes.now) }
 {
@@ -50,7 +50,7 @@ fn whole_outcome(alloc: Global, bytes: &[u8]) -> Result<Outcome, EntryRefusal>
     }
 }
 
-#[tactic(auto, unfolding(crate::specs::Reading::outcome_at))]
+#[tactic(auto, unfolding(crate::specs::EntryReading::outcome_at))]
 fn outcome_at(alloc: Global, bytes: &[u8]) -> Result<(Outcome, &[u8]), Unread>
     ensures { Gives (λ x. (x.0, x.1.now)) result (outcome_at bytes.now) }
 {
@@ -67,7 +67,7 @@ fn outcome_at(alloc: Global, bytes: &[u8]) -> Result<(Outcome, &[u8]), Unread>
     undecodable_at(rest)
 }
 
-#[tactic(auto, unfolding(crate::specs::Reading::undecodable_at))]
+#[tactic(auto, unfolding(crate::specs::EntryReading::undecodable_at))]
 fn undecodable_at(bytes: &[u8]) -> Result<(Outcome, &[u8]), Unread>
     ensures { Gives (λ x. (x.0, x.1.now)) result (undecodable_at bytes.now) }
 {
@@ -75,7 +75,7 @@ fn undecodable_at(bytes: &[u8]) -> Result<(Outcome, &[u8]), Unread>
     Ok((Outcome::Undecodable(cause), rest))
 }
 
-#[tactic(auto, unfolding(crate::specs::Reading::cause_at))]
+#[tactic(auto, unfolding(crate::specs::EntryReading::cause_at))]
 fn cause_at(bytes: &[u8]) -> Result<(Cause, &[u8]), Unread>
     ensures { Gives (λ x. (x.0, x.1.now)) result (cause_at bytes.now) }
 {
@@ -86,7 +86,7 @@ fn cause_at(bytes: &[u8]) -> Result<(Cause, &[u8]), Unread>
     Ok((plain_cause(sign), rest))
 }
 
-#[tactic(auto, unfolding(crate::specs::Reading::not_json_at))]
+#[tactic(auto, unfolding(crate::specs::EntryReading::not_json_at))]
 fn not_json_at(bytes: &[u8]) -> Result<(Cause, &[u8]), Unread>
     ensures { Gives (λ x. (x.0, x.1.now)) result (not_json_at bytes.now) }
 {
@@ -106,7 +106,7 @@ fn plain_cause(sign: u8) -> Cause
     }
 }
 
-#[tactic(auto, unfolding(crate::specs::Reading::stored_at))]
+#[tactic(auto, unfolding(crate::specs::EntryReading::stored_at))]
 fn stored_at(alloc: Global, bytes: &[u8]) -> Result<(Outcome, &[u8]), Unread>
     ensures { Gives (λ x. (x.0, x.1.now)) result (stored_at bytes.now) }
 {
@@ -133,7 +133,7 @@ fn ids_at(alloc: Global, count: u16, bytes: &[u8]) -> Result<(Items<u64>, &[u8])
     Ok((Items::from_vec(ids), rest))
 }
 
-#[tactic(auto, unfolding(crate::specs::Reading::id_at))]
+#[tactic(auto, unfolding(crate::specs::EntryReading::id_at))]
 fn id_at<'a>(ids: &[u64], bytes: &'a [u8]) -> Result<(u64, &'a [u8]), Unread>
     requires { Rises (λ (a b : ℕ). a < b) ids.now }
     ensures { Gives (λ x. (x.0, x.1.now)) result (id_at ids.now bytes.now) }
@@ -173,7 +173,7 @@ fn fields_at(alloc: Global, count: u16, bytes: &[u8]) -> Result<(FieldMap, &[u8]
     Ok((FieldMap::from_fields(fields, size), rest))
 }
 
-#[tactic(auto, unfolding(crate::specs::Reading::field_at))]
+#[tactic(auto, unfolding(crate::specs::EntryReading::field_at))]
 fn field_at<'a>(
     alloc: Global,
     fields: &[Field],
@@ -189,7 +189,7 @@ fn field_at<'a>(
     named_at(alloc, fields, size, len, rest)
 }
 
-#[tactic(auto, unfolding(crate::specs::Reading::named_at))]
+#[tactic(auto, unfolding(crate::specs::EntryReading::named_at))]
 fn named_at<'a>(
     alloc: Global,
     fields: &[Field],
@@ -211,7 +211,7 @@ fn named_at<'a>(
     Ok((field, rest))
 }
 
-#[tactic(auto, unfolding(crate::specs::Reading::name_at))]
+#[tactic(auto, unfolding(crate::specs::EntryReading::name_at))]
 fn name_at<'a>(
     alloc: Global,
     fields: &[Field],
@@ -261,7 +261,7 @@ fn is_taken(size: usize, field: &Field) -> bool
     size + name + text <= limits::MAX_SIZE
 }
 
-#[tactic(auto, unfolding(crate::specs::Reading::value_at))]
+#[tactic(auto, unfolding(crate::specs::EntryReading::value_at))]
 fn value_at(alloc: Global, bytes: &[u8]) -> Result<(Value, &[u8]), Unread>
     ensures { Gives (λ x. (x.0, x.1.now)) result (value_at bytes.now) }
 {
@@ -273,7 +273,7 @@ fn value_at(alloc: Global, bytes: &[u8]) -> Result<(Value, &[u8]), Unread>
     }
 }
 
-#[tactic(auto, unfolding(crate::specs::Reading::text_value_at))]
+#[tactic(auto, unfolding(crate::specs::EntryReading::text_value_at))]
 fn text_value_at(alloc: Global, bytes: &[u8]) -> Result<(Value, &[u8]), Unread>
     ensures { Gives (λ x. (x.0, x.1.now)) result (text_value_at bytes.now) }
 {
@@ -281,7 +281,7 @@ fn text_value_at(alloc: Global, bytes: &[u8]) -> Result<(Value, &[u8]), Unread>
     Ok((Value::Text(Text::from_str(alloc, text)?), rest))
 }
 
-#[tactic(auto, unfolding(crate::specs::Reading::whole_value_at))]
+#[tactic(auto, unfolding(crate::specs::EntryReading::whole_value_at))]
 fn whole_value_at(bytes: &[u8]) -> Result<(Value, &[u8]), Unread>
     ensures { Gives (λ x. (x.0, x.1.now)) result (whole_value_at bytes.now) }
 {

@@ -14,7 +14,7 @@ use Rattle.gl_json.specs.declared.bytes.Stop.TheVariants.{At, Deep}
 use Rattle.gl_json.specs.declared.refusal.JsonRefusal.{JsonRefusal}
 use Rattle.gl_json.specs.declared.refusal.JsonRefusal.TheVariants as json
 use Rattle.gl_json.specs.Places.{refused, object_of, Answers}
-use Rattle.gl_json.specs.Reading.{whole_at}
+use Rattle.gl_json.specs.JsonReading.{whole_at}
 use Rattle.gl_json.specs.Grammar.{Value, Pair}
 use Rattle.gl_gelf.specs.declared.members.Named.{Named}
 use Rattle.gl_fields.specs.declared.fault.DecodeFault.{DecodeFault}

@@ -9,7 +9,7 @@ use Rattle.gl_json.specs.declared.bytes.Stop.TheVariants.{At}
 use Rattle.gl_json.specs.declared.chars.Char.{Char}
 use Rattle.gl_json.specs.declared.chars.Char.TheVariants.{One, Two, Three, Four, Escape, Unicode}
 use Rattle.gl_json.specs.Chars.{char_bytes, is_tail, is_second, is_plain, is_escape, is_hex, is_char, AreChars, inside}
-use Rattle.gl_json.specs.Reading.{◌>>=◌, Read, past, one_at, unicode_at, escape_at, two_at, three_at, four_at, char_at, chars_end, string_at, sign_at, before}
+use Rattle.gl_json.specs.JsonReading.{◌>>=◌, Read, past, one_at, unicode_at, escape_at, two_at, three_at, four_at, char_at, chars_end, string_at, sign_at, before}
 use Rattle.gl_json.proofs.Taking.{bound, goes_on, ok_is, split, one_sound, one_complete, before_is, past_is}
 
 pub record IsRead (bytes : List ℕ) (y : Char × List ℕ) : Type 0 where

@@ -7,7 +7,7 @@ use Rattle.gl_base.specs.Bytes.{next_is, behind_first}
 use Rattle.gl_json.specs.declared.bytes.Stop.{Stop}
 use Rattle.gl_json.specs.declared.bytes.Stop.TheVariants.{At}
 use Rattle.gl_json.specs.Grammar.{is_blank, AreBlanks, AreParted, last, also, AreBetween, nothing, something}
-use Rattle.gl_json.specs.Reading.{◌>>=◌, Read, Skip, rest_of, past, trimmed, parted_at, parts_at, between_at, elements_at}
+use Rattle.gl_json.specs.JsonReading.{◌>>=◌, Read, Skip, rest_of, past, trimmed, parted_at, parts_at, between_at, elements_at}
 use Rattle.gl_json.proofs.Taking.{bound, goes_on, ok_is, split, past_over, past_is}
 use Rattle.gl_json.proofs.CharRead.{take_yes, take_no, eq_is}
 

@@ -13,7 +13,7 @@ use Rattle.gl_json.specs.declared.refusal.JsonRefusal.TheVariants as refusals
 use Rattle.gl_json.specs.declared.value.Member.{Member}
 use Rattle.gl_json.specs.Grammar.{Value, object, null, Pair, IsMember, IsValue, IsObject, IsObjectText}
 use Rattle.gl_json.specs.Flattening.{IsKept, AreFlatWith, ended, kept, skipped, nested, IsFlatIn, AreFlat, Grows, Appends, IsUnder, Flattens}
-use Rattle.gl_json.specs.Reading.{Read, elements_at, member_at, value_at}
+use Rattle.gl_json.specs.JsonReading.{Read, elements_at, member_at, value_at}
 use Rattle.gl_json.specs.Places.{Answers, Halts, object_of}
 use Rattle.gl_json.specs.Views.{pair_view, field_view}
 use Rattle.gl_json.proofs.Taking.{ok_is}

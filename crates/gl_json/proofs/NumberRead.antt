@@ -5,7 +5,7 @@ use Rattle.std.specs.Int.{is_in_range}
 use Rattle.std.specs.List.{list_all}
 use Rattle.gl_base.specs.Bytes.{is_digit, is_sign, is_e}
 use Rattle.gl_json.specs.Numbers.{are_digits, is_minus, is_int, is_frac, are_signed_digits, is_exp, IsNumber}
-use Rattle.gl_json.specs.Reading.{◌>>=◌, past, one_at, digits_at, int_at, minus_at, frac_at, signed_at, exp_at, number_at}
+use Rattle.gl_json.specs.JsonReading.{◌>>=◌, past, one_at, digits_at, int_at, minus_at, frac_at, signed_at, exp_at, number_at}
 use Rattle.gl_json.proofs.Taking.{bound, goes_on, ok_is, split, one_sound, one_complete, past_over, past_is}
 use Rattle.gl_json.proofs.CharRead.{take_yes, take_no, eq_is}
 

@@ -14,7 +14,7 @@ use Rattle.gl_json.specs.declared.chars.Char.TheVariants.{One, Two, Three, Four,
 use Rattle.gl_json.specs.declared.refusal.JsonRefusal.{JsonRefusal}
 use Rattle.gl_json.specs.Chars.{char_bytes, is_char, is_tail, is_second, is_plain, is_escape, AreChars, inside}
 use Rattle.gl_json.specs.Escapes.{meaning, hex_value, code_unit, is_high, is_low, replacement, lone, scalar_text, surrogate_pair, unit_alone, unit_text, char_text, waits, decoded_behind, decoded, Says, said_by, chars_of, text_of}
-use Rattle.gl_json.specs.Reading.{◌>>=◌, past, char_at, before}
+use Rattle.gl_json.specs.JsonReading.{◌>>=◌, past, char_at, before}
 use Rattle.gl_json.specs.Places.{refused, Answers}
 use Rattle.gl_json.proofs.Taking.{bound, goes_on, ok_is, before_is, past_is}
 use Rattle.gl_json.proofs.CharRead.{char_sound, char_complete, char_shorter, char_some}

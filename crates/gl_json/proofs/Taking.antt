@@ -6,7 +6,7 @@ use Rattle.std.specs.List.{list_all}
 use Rattle.std.proofs.lemmas.Bool.{and_from, and_parts}
 use Rattle.gl_json.specs.declared.bytes.Stop.{Stop}
 use Rattle.gl_json.specs.declared.bytes.Stop.TheVariants.{At}
-use Rattle.gl_json.specs.Reading.{◌>>=◌, past, one_at, word_at, before}
+use Rattle.gl_json.specs.JsonReading.{◌>>=◌, past, one_at, word_at, before}
 
 -- a step that didn't fail
 pub bound : {A B : Type 0} (r : Result A Stop) (f : A → Result B Stop) (y : B) → (r >>= f) ≡ Ok y → (x : A) × (r ≡ Ok x) × (f x ≡ Ok y)

@@ -10,7 +10,7 @@ use Rattle.gl_json.specs.declared.bytes.Stop.TheVariants.{Deep}
 use Rattle.gl_json.specs.Chars.{inside}
 use Rattle.gl_json.specs.Numbers.{IsNumber}
 use Rattle.gl_json.specs.Grammar.{Value, text, number, yes_, no_, null, object, array, Pair, is_blank, AreBlanks, AreBetween, IsItem, item, IsMember, member, IsValueOf, a_text, a_number, a_true, a_false, a_null, an_object, an_array, IsObjectIn, IsArrayIn, IsValue, IsObject, IsObjectText}
-use Rattle.gl_json.specs.Reading.{◌>>=◌, Read, Skip, trimmed, before, sign_at, word_at, string_at, number_at, elements_at, rest_of, part_of, valued, text_at, value_of, item_at, member_at, objects_at, arrays_at, value_at, ended, whole_at}
+use Rattle.gl_json.specs.JsonReading.{◌>>=◌, Read, Skip, trimmed, before, sign_at, word_at, string_at, number_at, elements_at, rest_of, part_of, valued, text_at, value_of, item_at, member_at, objects_at, arrays_at, value_at, ended, whole_at}
 use Rattle.gl_json.proofs.Taking.{bound, goes_on, ok_is, split, one_sound, one_complete, before_is, past_is, word_sound, word_complete}
 use Rattle.gl_json.proofs.CharRead.{take_no, eq_is, string_sound, string_complete}
 use Rattle.gl_json.proofs.NumberRead.{heads, goes_no_number, number_sound, number_complete, number_first}

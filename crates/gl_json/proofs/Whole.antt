@@ -5,7 +5,7 @@ use Rattle.gl_json.specs.declared.bytes.Stop.{Stop}
 use Rattle.gl_json.specs.declared.value.Member.{Member}
 use Rattle.gl_json.specs.declared.refusal.JsonRefusal.{JsonRefusal}
 use Rattle.gl_json.specs.Grammar.{Pair, IsObjectText}
-use Rattle.gl_json.specs.Reading.{whole_at}
+use Rattle.gl_json.specs.JsonReading.{whole_at}
 use Rattle.gl_json.specs.Places.{refused, Answers, object_of}
 use Rattle.gl_json.specs.Views.{pair_view}
 use Rattle.gl_json.proofs.ValueRead.{whole_sound, whole_complete}

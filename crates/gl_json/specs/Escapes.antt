@@ -9,7 +9,7 @@ use Rattle.gl_json.specs.declared.chars.Char.{Char}
 use Rattle.gl_json.specs.declared.chars.Char.TheVariants.{One, Two, Three, Four, Escape, Unicode}
 use Rattle.gl_json.specs.declared.refusal.JsonRefusal.{JsonRefusal}
 use Rattle.gl_json.specs.Chars.{AreChars, inside}
-use Rattle.gl_json.specs.Reading.{◌>>=◌, char_at}
+use Rattle.gl_json.specs.JsonReading.{◌>>=◌, char_at}
 use Rattle.gl_json.specs.Places.{refused}
 
 -- what a backslash and this byte say

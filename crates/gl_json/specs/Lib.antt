@@ -1,7 +1,7 @@
 pub mod Chars
 pub mod Numbers
 pub mod Grammar
-pub mod Reading
+pub mod JsonReading
 pub mod Views
 pub mod Places
 pub mod Escapes

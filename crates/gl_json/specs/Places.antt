@@ -7,7 +7,7 @@ use Rattle.gl_json.specs.declared.refusal.JsonRefusal.TheVariants as refusals
 use Rattle.gl_json.specs.declared.refusal.Halt.{Halt}
 use Rattle.gl_json.specs.declared.refusal.Halt.TheVariants as halts
 use Rattle.gl_json.specs.Grammar.{Pair}
-use Rattle.gl_json.specs.Reading.{whole_at}
+use Rattle.gl_json.specs.JsonReading.{whole_at}
 
 -- the place is counted from the front of the text
 abbrev pub refusal_of : List ℕ → Stop → JsonRefusal

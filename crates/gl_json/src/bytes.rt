@@ -4,7 +4,7 @@ ghost use Rattle.std.specs.Int.{is_in_range};
 ghost use Rattle.gl_base.specs.Bytes.{is_digit};
 ghost use Rattle.gl_json.specs.Chars.{is_hex};
 ghost use Rattle.gl_json.specs.Grammar.{is_blank};
-ghost use Rattle.gl_json.specs.Reading.{Gives, past, trimmed, one_at, sign_at, word_at, before};
+ghost use Rattle.gl_json.specs.JsonReading.{Gives, past, trimmed, one_at, sign_at, word_at, before};
 
 use gl_base::bytes::is_digit;
 
@@ -31,7 +31,7 @@ fn is_hex(byte: u8) -> bool
 }
 
 /// What stands behind white space.
-#[tactic(auto, unfolding(crate::specs::Reading::past))]
+#[tactic(auto, unfolding(crate::specs::JsonReading::past))]
 pub fn trimmed(bytes: &[u8]) -> &[u8]
     ensures { result.now ≡ trimmed bytes.now }
 {
@@ -46,7 +46,7 @@ pub fn trimmed(bytes: &[u8]) -> &[u8]
 }
 
 /// What stands behind digits.
-#[tactic(auto, unfolding(crate::specs::Reading::past))]
+#[tactic(auto, unfolding(crate::specs::JsonReading::past))]
 pub fn past_digits(bytes: &[u8]) -> &[u8]
     ensures { result.now ≡ past is_digit bytes.now }
 {
@@ -61,7 +61,7 @@ pub fn past_digits(bytes: &[u8]) -> &[u8]
 }
 
 /// A byte in this range.
-#[tactic(auto, unfolding(crate::specs::Reading::one_at))]
+#[tactic(auto, unfolding(crate::specs::JsonReading::one_at))]
 pub fn byte_at(bytes: &[u8], least: u8, most: u8) -> Result<(u8, &[u8]), Stop>
     ensures { Gives (λ x. (x.0, x.1.now)) result (one_at (is_in_range least most) bytes.now) }
 {
@@ -76,7 +76,7 @@ pub fn byte_at(bytes: &[u8], least: u8, most: u8) -> Result<(u8, &[u8]), Stop>
     }
 }
 
-#[tactic(auto, unfolding(crate::specs::Reading::one_at))]
+#[tactic(auto, unfolding(crate::specs::JsonReading::one_at))]
 pub fn digit_at(bytes: &[u8]) -> Result<(u8, &[u8]), Stop>
     ensures { Gives (λ x. (x.0, x.1.now)) result (one_at is_digit bytes.now) }
 {
@@ -84,7 +84,7 @@ pub fn digit_at(bytes: &[u8]) -> Result<(u8, &[u8]), Stop>
 }
 
 /// A digit of a hexadecimal number.
-#[tactic(auto, unfolding(crate::specs::Reading::one_at))]
+#[tactic(auto, unfolding(crate::specs::JsonReading::one_at))]
 pub fn hex_at(bytes: &[u8]) -> Result<(u8, &[u8]), Stop>
     ensures { Gives (λ x. (x.0, x.1.now)) result (one_at is_hex bytes.now) }
 {
@@ -100,7 +100,7 @@ pub fn hex_at(bytes: &[u8]) -> Result<(u8, &[u8]), Stop>
 }
 
 /// What stands behind this byte.
-#[tactic(auto, unfolding(crate::specs::Reading::one_at))]
+#[tactic(auto, unfolding(crate::specs::JsonReading::one_at))]
 pub fn sign_at(bytes: &[u8], sign: u8) -> Result<(u8, &[u8]), Stop>
     ensures { Gives (λ x. (x.0, x.1.now)) result (sign_at sign bytes.now) }
 {
@@ -116,7 +116,7 @@ pub fn sign_at(bytes: &[u8], sign: u8) -> Result<(u8, &[u8]), Stop>
 }
 
 /// What stands behind these bytes.
-#[tactic(auto, unfolding(crate::specs::Reading::word_at))]
+#[tactic(auto, unfolding(crate::specs::JsonReading::word_at))]
 pub fn word_at<'a>(word: &[u8], bytes: &'a [u8]) -> Result<&'a [u8], Stop>
     ensures { Gives (λ x. x.now) result (word_at word.now bytes.now) }
 {

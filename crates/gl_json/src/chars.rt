@@ -3,7 +3,7 @@ ghost use Rattle.std.specs.Prelude.{◌≡◌, ◌==◌, ◌<◌, length, IfSome
 ghost use Rattle.std.specs.List.{list_all};
 ghost use Rattle.std.specs.Int.{is_in_range};
 ghost use Rattle.gl_json.specs.Chars.{is_tail, is_second, is_plain, is_escape, is_hex};
-ghost use Rattle.gl_json.specs.Reading.{Gives, past, one_at, unicode_at, escape_at, two_at, three_at, four_at, char_at, chars_end, string_at};
+ghost use Rattle.gl_json.specs.JsonReading.{Gives, past, one_at, unicode_at, escape_at, two_at, three_at, four_at, char_at, chars_end, string_at};
 
 use crate::bytes::{self, Stop};
 
@@ -49,7 +49,7 @@ fn tail_at(bytes: &[u8]) -> Result<(u8, &[u8]), Stop>
 }
 
 /// The second byte of a character of three or four bytes.
-#[tactic(auto, unfolding(crate::specs::Reading::one_at))]
+#[tactic(auto, unfolding(crate::specs::JsonReading::one_at))]
 fn second_at(bytes: &[u8], first: u8) -> Result<(u8, &[u8]), Stop>
     ensures { Gives (λ x. (x.0, x.1.now)) result (one_at (is_second first) bytes.now) }
 {
@@ -62,7 +62,7 @@ fn second_at(bytes: &[u8], first: u8) -> Result<(u8, &[u8]), Stop>
     }
 }
 
-#[tactic(auto, unfolding(crate::specs::Reading::unicode_at))]
+#[tactic(auto, unfolding(crate::specs::JsonReading::unicode_at))]
 fn unicode_at(bytes: &[u8]) -> Result<(Char, &[u8]), Stop>
     ensures { Gives (λ x. (x.0, x.1.now)) result (unicode_at bytes.now) }
 {
@@ -73,7 +73,7 @@ fn unicode_at(bytes: &[u8]) -> Result<(Char, &[u8]), Stop>
     Ok((Char::Unicode(a, b, c, d), rest))
 }
 
-#[tactic(auto, unfolding(crate::specs::Reading::escape_at))]
+#[tactic(auto, unfolding(crate::specs::JsonReading::escape_at))]
 fn escape_at(bytes: &[u8]) -> Result<(Char, &[u8]), Stop>
     ensures { Gives (λ x. (x.0, x.1.now)) result (escape_at bytes.now) }
 {
@@ -91,7 +91,7 @@ fn escape_at(bytes: &[u8]) -> Result<(Char, &[u8]), Stop>
     }
 }
 
-#[tactic(auto, unfolding(crate::specs::Reading::two_at))]
+#[tactic(auto, unfolding(crate::specs::JsonReading::two_at))]
 fn two_at(a: u8, bytes: &[u8]) -> Result<(Char, &[u8]), Stop>
     ensures { Gives (λ x. (x.0, x.1.now)) result (two_at a bytes.now) }
 {
@@ -99,7 +99,7 @@ fn two_at(a: u8, bytes: &[u8]) -> Result<(Char, &[u8]), Stop>
     Ok((Char::Two(a, b), rest))
 }
 
-#[tactic(auto, unfolding(crate::specs::Reading::three_at))]
+#[tactic(auto, unfolding(crate::specs::JsonReading::three_at))]
 fn three_at(a: u8, bytes: &[u8]) -> Result<(Char, &[u8]), Stop>
     ensures { Gives (λ x. (x.0, x.1.now)) result (three_at a bytes.now) }
 {
@@ -108,7 +108,7 @@ fn three_at(a: u8, bytes: &[u8]) -> Result<(Char, &[u8]), Stop>
     Ok((Char::Three(a, b, c), rest))
 }
 
-#[tactic(auto, unfolding(crate::specs::Reading::four_at))]
+#[tactic(auto, unfolding(crate::specs::JsonReading::four_at))]
 fn four_at(a: u8, bytes: &[u8]) -> Result<(Char, &[u8]), Stop>
     ensures { Gives (λ x. (x.0, x.1.now)) result (four_at a bytes.now) }
 {
@@ -119,7 +119,7 @@ fn four_at(a: u8, bytes: &[u8]) -> Result<(Char, &[u8]), Stop>
 }
 
 /// A character, and the bytes behind it.
-#[tactic(auto, unfolding(crate::specs::Reading::char_at))]
+#[tactic(auto, unfolding(crate::specs::JsonReading::char_at))]
 pub fn char_at(bytes: &[u8]) -> Result<(Char, &[u8]), Stop>
     ensures { Gives (λ x. (x.0, x.1.now)) result (char_at bytes.now) }
 {
@@ -185,7 +185,7 @@ pub fn past_plain(bytes: &[u8]) -> &[u8]
     past_each_plain(rest)
 }
 
-#[tactic(auto, unfolding(crate::specs::Reading::past))]
+#[tactic(auto, unfolding(crate::specs::JsonReading::past))]
 fn past_each_plain(bytes: &[u8]) -> &[u8]
     ensures { result.now ≡ past is_plain bytes.now }
 {
@@ -216,7 +216,7 @@ fn chars_end(bytes: &[u8]) -> Result<&[u8], Stop>
 
 /// Behind the quote that opens a string: what stands up to the quote that ends it, and what
 /// stands behind that.
-#[tactic(auto, unfolding(crate::specs::Reading::string_at))]
+#[tactic(auto, unfolding(crate::specs::JsonReading::string_at))]
 pub fn string_at(bytes: &[u8]) -> Result<(&[u8], &[u8]), Stop>
     ensures { Gives (λ x. (x.0.now, x.1.now)) result (string_at bytes.now) }
 {

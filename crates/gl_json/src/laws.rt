@@ -4,7 +4,7 @@ ghost use Rattle.std.specs.Str.{IsUtf8};
 ghost use Rattle.gl_base.specs.Bytes.{behind_first};
 ghost use Rattle.gl_json.specs.Numbers.{IsNumber};
 ghost use Rattle.gl_json.specs.Grammar.{Pair, IsObject, IsObjectIn, IsArrayIn, IsObjectText};
-ghost use Rattle.gl_json.specs.Reading.{elements_at, member_at, value_at};
+ghost use Rattle.gl_json.specs.JsonReading.{elements_at, member_at, value_at};
 ghost use Rattle.gl_json.specs.Places.{object_of};
 ghost use Rattle.gl_json.specs.Escapes.{Says, text_of};
 ghost use Rattle.gl_json.specs.Flattening.{IsInside};

@@ -3,7 +3,7 @@
 //! `read_object` reads exactly the texts that the grammar of `specs/Grammar` has, in UTF-8
 //! (`specs/Chars`) and nested to 64 levels, and gives their members as slices: only their list takes
 //! memory. Of any other text it says the first byte that no case takes behind the bytes before it, or
-//! that a 65th level opens before it (`specs/Reading`, `specs/Places`). `unescape` gives what stands
+//! that a 65th level opens before it (`specs/JsonReading`, `specs/Places`). `unescape` gives what stands
 //! between the quotes of a string (`specs/Escapes`), and `flatten` the fields of an object and of those
 //! that nest in it (`specs/Flattening`). That what is read from left to right is what the grammar has are
 //! laws, which hold whatever the calls answer for want of memory (`law_objects_are_read`,

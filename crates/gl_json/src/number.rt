@@ -1,13 +1,13 @@
 // Numbers, each part of which is read to its end.
 ghost use Rattle.std.specs.Prelude.{◌≡◌};
 ghost use Rattle.gl_base.specs.Bytes.{is_digit, is_sign, is_e};
-ghost use Rattle.gl_json.specs.Reading.{Gives, digits_at, int_at, minus_at, frac_at, signed_at, exp_at, number_at};
+ghost use Rattle.gl_json.specs.JsonReading.{Gives, digits_at, int_at, minus_at, frac_at, signed_at, exp_at, number_at};
 
 use crate::bytes::{self, Stop};
 use gl_base::bytes::{is_e, is_sign};
 
 /// One digit or more.
-#[tactic(auto, unfolding(crate::specs::Reading::digits_at))]
+#[tactic(auto, unfolding(crate::specs::JsonReading::digits_at))]
 fn digits_at(bytes: &[u8]) -> Result<&[u8], Stop>
     ensures { Gives (λ x. x.now) result (digits_at bytes.now) }
 {
@@ -15,7 +15,7 @@ fn digits_at(bytes: &[u8]) -> Result<&[u8], Stop>
     Ok(bytes::past_digits(rest))
 }
 
-#[tactic(auto, unfolding(crate::specs::Reading::int_at))]
+#[tactic(auto, unfolding(crate::specs::JsonReading::int_at))]
 fn int_at(bytes: &[u8]) -> Result<&[u8], Stop>
     ensures { Gives (λ x. x.now) result (int_at bytes.now) }
 {
@@ -30,7 +30,7 @@ fn int_at(bytes: &[u8]) -> Result<&[u8], Stop>
     }
 }
 
-#[tactic(auto, unfolding(crate::specs::Reading::minus_at))]
+#[tactic(auto, unfolding(crate::specs::JsonReading::minus_at))]
 fn minus_at(bytes: &[u8]) -> Result<&[u8], Stop>
     ensures { Gives (λ x. x.now) result (minus_at bytes.now) }
 {
@@ -45,7 +45,7 @@ fn minus_at(bytes: &[u8]) -> Result<&[u8], Stop>
     }
 }
 
-#[tactic(auto, unfolding(crate::specs::Reading::frac_at))]
+#[tactic(auto, unfolding(crate::specs::JsonReading::frac_at))]
 fn frac_at(bytes: &[u8]) -> Result<&[u8], Stop>
     ensures { Gives (λ x. x.now) result (frac_at bytes.now) }
 {
@@ -60,7 +60,7 @@ fn frac_at(bytes: &[u8]) -> Result<&[u8], Stop>
     }
 }
 
-#[tactic(auto, unfolding(crate::specs::Reading::signed_at))]
+#[tactic(auto, unfolding(crate::specs::JsonReading::signed_at))]
 fn signed_at(bytes: &[u8]) -> Result<&[u8], Stop>
     ensures { Gives (λ x. x.now) result (signed_at bytes.now) }
 {
@@ -75,7 +75,7 @@ fn signed_at(bytes: &[u8]) -> Result<&[u8], Stop>
     }
 }
 
-#[tactic(auto, unfolding(crate::specs::Reading::exp_at))]
+#[tactic(auto, unfolding(crate::specs::JsonReading::exp_at))]
 fn exp_at(bytes: &[u8]) -> Result<&[u8], Stop>
     ensures { Gives (λ x. x.now) result (exp_at bytes.now) }
 {
@@ -91,7 +91,7 @@ fn exp_at(bytes: &[u8]) -> Result<&[u8], Stop>
 }
 
 /// What stands behind a number.
-#[tactic(auto, unfolding(crate::specs::Reading::number_at))]
+#[tactic(auto, unfolding(crate::specs::JsonReading::number_at))]
 pub fn number_at(bytes: &[u8]) -> Result<&[u8], Stop>
     ensures { Gives (λ x. x.now) result (number_at bytes.now) }
 {

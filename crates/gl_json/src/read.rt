@@ -2,7 +2,7 @@
 ghost use Rattle.std.specs.Prelude.{◌≡◌, ◌-◌, List, Ok, length, map, IfOk};
 ghost use Rattle.std.specs.List.{All};
 ghost use Rattle.gl_json.specs.Grammar.{Pair, IsObjectText};
-ghost use Rattle.gl_json.specs.Reading.{elements_at, member_at, value_at, whole_at, ended};
+ghost use Rattle.gl_json.specs.JsonReading.{elements_at, member_at, value_at, whole_at, ended};
 ghost use Rattle.gl_json.specs.Places.{refusal_of, Answers, Halts, object_of};
 ghost use Rattle.gl_json.specs.Flattening.{IsFormedPair};
 ghost use Rattle.gl_json.specs.Views.{pair_view};
@@ -58,7 +58,7 @@ pub fn refusal_of(text: &[u8], stop: Stop) -> JsonRefusal
     }
 }
 
-#[tactic(auto, unfolding(crate::specs::Reading::whole_at))]
+#[tactic(auto, unfolding(crate::specs::JsonReading::whole_at))]
 fn whole_at(alloc: Global, text: &[u8]) -> Result<Vec<Member<'_>>, Halt>
     ensures { Halts (λ v. map pair_view v.items) result (whole_at text.now) }
 {

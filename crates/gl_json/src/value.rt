@@ -1,6 +1,6 @@
 // Values, and what stands between brackets.
 ghost use Rattle.std.specs.Prelude.{◌≡◌};
-ghost use Rattle.gl_json.specs.Reading.{Gives, rest_of, parted_at, elements_at, item_at, member_at, objects_at, arrays_at, value_at, text_at};
+ghost use Rattle.gl_json.specs.JsonReading.{Gives, rest_of, parted_at, elements_at, item_at, member_at, objects_at, arrays_at, value_at, text_at};
 ghost use Rattle.gl_json.specs.Views.{value_view, pair_view};
 
 use crate::bytes::{self, Stop};
@@ -32,7 +32,7 @@ pub struct Member<'a> {
 }
 
 /// Whether a comma stands here, and else the closing sign.
-#[tactic(auto, unfolding(crate::specs::Reading::parted_at))]
+#[tactic(auto, unfolding(crate::specs::JsonReading::parted_at))]
 pub fn parted_at(bytes: &[u8], closing: u8) -> Result<(bool, &[u8]), Stop>
     ensures { Gives (λ x. (x.0, x.1.now)) result (parted_at closing bytes.now) }
 {
@@ -50,7 +50,7 @@ pub fn parted_at(bytes: &[u8], closing: u8) -> Result<(bool, &[u8]), Stop>
     }
 }
 
-#[tactic(auto, unfolding(crate::specs::Reading::text_at))]
+#[tactic(auto, unfolding(crate::specs::JsonReading::text_at))]
 fn text_at(bytes: &[u8]) -> Result<(Raw<'_>, &[u8]), Stop>
     ensures { Gives (λ x. (value_view x.0, x.1.now)) result (text_at bytes.now) }
 {
@@ -60,7 +60,7 @@ fn text_at(bytes: &[u8]) -> Result<(Raw<'_>, &[u8]), Stop>
 
 /// A value in which objects and arrays may nest so deep.
 #[cycle(reader)]
-#[tactic(auto, unfolding(crate::specs::Reading::value_of))]
+#[tactic(auto, unfolding(crate::specs::JsonReading::value_of))]
 pub fn value_at(bytes: &[u8], levels: u32) -> Result<(Raw<'_>, &[u8]), Stop>
     ensures { Gives (λ x. (value_view x.0, x.1.now)) result (value_at levels bytes.now) }
 {
@@ -145,7 +145,7 @@ fn items_end(bytes: &[u8], levels: u32) -> Result<&[u8], Stop>
 
 /// A member, and what stands behind it and the white space that follows.
 #[cycle(reader)]
-#[tactic(auto, unfolding(crate::specs::Reading::member_at))]
+#[tactic(auto, unfolding(crate::specs::JsonReading::member_at))]
 pub fn member_at(bytes: &[u8], levels: u32) -> Result<(Member<'_>, &[u8]), Stop>
     ensures { Gives (λ x. (pair_view x.0, x.1.now)) result (member_at (value_at levels) bytes.now) }
 {
@@ -157,7 +157,7 @@ pub fn member_at(bytes: &[u8], levels: u32) -> Result<(Member<'_>, &[u8]), Stop>
 }
 
 #[cycle(reader)]
-#[tactic(auto, unfolding(crate::specs::Reading::item_at))]
+#[tactic(auto, unfolding(crate::specs::JsonReading::item_at))]
 fn item_at(bytes: &[u8], levels: u32) -> Result<(Raw<'_>, &[u8]), Stop>
     ensures { Gives (λ x. (value_view x.0, x.1.now)) result (item_at (value_at levels) bytes.now) }
 {

@@ -9,7 +9,7 @@ use Rattle.std.proofs.lemmas.Bool.Decides.{nat_tests}
 use Rattle.gl_base.specs.declared.fed.Fed.{Fed}
 use Rattle.gl_base.specs.declared.fed.Fed.TheVariants as fed
 use Rattle.gl_lines.specs.ZeroFraming.{parts_of, is_long, with_part, ended_of, frames_of, is_too_long, open_of}
-use Rattle.gl_lines.specs.ZeroReader.{ZeroView, Leaves, Stands, Takes, IsDropped, IsEnd}
+use Rattle.gl_lines.specs.ZeroReader.{ZeroView, Leaves, StandsFor, Takes, IsDropped, IsEnd}
 use Rattle.gl_lines.specs.declared.zero_front.Stage.{Stage}
 use Rattle.gl_lines.specs.declared.zero_front.Stage.TheVariants as stages
 use Rattle.gl_lines.specs.declared.zero_front.ZeroFront.{ZeroFront}
@@ -229,7 +229,7 @@ takes_closed z given piece n long rest_is n_is =
       stands = subst (λ (o : Option (List ℕ)). Leaves o (given ++ take n piece)) (sym rest_is) stands;
     }
 
-pub nothing_given : (z : ZeroView) → z.rest ≡ Some [] → Stands z []
+pub nothing_given : (z : ZeroView) → z.rest ≡ Some [] → StandsFor z []
 unfolding open_of is_too_long parts_of
 nothing_given z rest_is =
     let stands : Leaves (Some []) [] = (refl, refl) in
@@ -307,7 +307,7 @@ pub some_rest : (front : ZeroFront) → IsOpen front.stage → is_some (zero_vie
 some_rest front open_ = ap is_some (open_rest front open_)
 
 -- public calls
-pub closed_takes : (z : ZeroView) (given piece : List ℕ) (n : ℕ) → z.rest ≡ None → n ≡ length piece → Stands z given → Takes z given piece n fed.Closed
+pub closed_takes : (z : ZeroView) (given piece : List ℕ) (n : ℕ) → z.rest ≡ None → n ≡ length piece → StandsFor z given → Takes z given piece n fed.Closed
 closed_takes z given piece n none n_is s = takes_closed z given piece n (subst (λ (o : Option (List ℕ)). Leaves o given) none s) none n_is
 
 pub dropped_end : (rest : Option (List ℕ)) (answer : Fed) (z : ZeroView) (given : List ℕ) → IsDropped rest answer z → Leaves rest given → IsEnd answer z given

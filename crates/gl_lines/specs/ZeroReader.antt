@@ -16,8 +16,8 @@ Leaves (Some rest) given = (is_too_long given ≡ false) × (open_of given ≡ r
 Leaves None given = is_too_long given ≡ true
 
 -- a reader stands for all bytes that it was given
-abbrev pub Stands : ZeroView → List ℕ → Type 0
-Stands z given = Leaves z.rest given
+abbrev pub StandsFor : ZeroView → List ℕ → Type 0
+StandsFor z given = Leaves z.rest given
 
 -- what is answered of a piece behind the bytes that were given, of which so many were taken
 abbrev pub Feeds : Fed → List ℕ → List ℕ → List ℕ → ℕ → Type 0
@@ -29,7 +29,7 @@ Feeds fed.Closed frame given piece n = (n ≡ length piece) × (is_too_long give
 -- what a call answers, and what the reader stands for then
 pub record Takes (z : ZeroView) (given piece : List ℕ) (n : ℕ) (fed : Fed) : Type 0 where
   pub feeds : Feeds fed z.frame given piece n
-  pub stands : Stands z (given ++ take n piece)
+  pub stands : StandsFor z (given ++ take n piece)
 
 -- the answer at the end of a connection: the rest is dropped, and no frame is lent
 abbrev pub IsDropped : Option (List ℕ) → Fed → ZeroView → Type 0
@@ -38,6 +38,6 @@ IsDropped None answer z = (answer ≡ fed.Closed) × (z.rest ≡ None) × (z.fra
 
 -- what is answered where the connection ends, and what the reader stands for then: the rest is dropped, and the reader begins anew, unless a frame was too long
 abbrev pub IsEnd : Fed → ZeroView → List ℕ → Type 0
-IsEnd fed.Nothing z given = (is_too_long given ≡ false) × Stands z []
-IsEnd fed.Closed z given = (is_too_long given ≡ true) × Stands z given
+IsEnd fed.Nothing z given = (is_too_long given ≡ false) × StandsFor z []
+IsEnd fed.Closed z given = (is_too_long given ≡ true) × StandsFor z given
 IsEnd _ z given = ⊥

@@ -1,6 +1,6 @@
 ghost use Rattle.std.specs.Prelude.{◌≡◌, ◌≤◌, [], List, ℕ, Some, length, IfOk};
 ghost use Rattle.gl_lines.specs.Reader.{IsAnswer};
-ghost use Rattle.gl_lines.specs.ZeroReader.{Stands, Takes, IsDropped, IsEnd};
+ghost use Rattle.gl_lines.specs.ZeroReader.{StandsFor, Takes, IsDropped, IsEnd};
 
 use crate::zero_front::{self, Stage, ZeroFront};
 use gl_base::Fed;
@@ -30,7 +30,7 @@ impl ZeroFrames {
     /// A reader at the start of a connection. It reserves room for the longest frame, and no later call takes memory.
     pub fn new(alloc: Global) -> Result<ZeroFrames, AllocError>
         ensures begun { IfOk result (λ z. z.rest ≡ Some []) }
-        ensures empty { IfOk result (λ z. Stands z []) }
+        ensures empty { IfOk result (λ z. StandsFor z []) }
     {
         Ok(ZeroFrames {
             front: zero_front::new(alloc)?,
@@ -43,7 +43,7 @@ impl ZeroFrames {
     pub fn take(&mut self, piece: &[u8]) -> (usize, Fed)
         ensures within { result.0 ≤ length piece.now }
         // Whatever was given before: the frames so far are those of the bytes so far.
-        ensures frames { (given : List ℕ) → Stands self.old given → Takes self.new given piece.now result.0 result.1 }
+        ensures frames { (given : List ℕ) → StandsFor self.old given → Takes self.new given piece.now result.0 result.1 }
         ensures answer { IsAnswer result.1 self.old.rest self.new.rest self.new.frame result.0 (length piece.now) }
     {
         if let Stage::Closed = self.front.stage {
@@ -68,7 +68,7 @@ impl ZeroFrames {
     /// Ends the connection: the bytes behind the last frame are dropped. The reader is then at the start of another
     /// connection, unless it is closed.
     pub fn end(&mut self) -> Fed
-        ensures ended { (given : List ℕ) → Stands self.old given → IsEnd result self.new given }
+        ensures ended { (given : List ℕ) → StandsFor self.old given → IsEnd result self.new given }
         ensures last { IsDropped self.old.rest result self.new }
     {
         zero_front::end(&mut self.front)

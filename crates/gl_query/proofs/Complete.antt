@@ -18,7 +18,7 @@ use Rattle.gl_query.specs.Grammar.{IsTerm, word, phrase, exists, field_word, fie
 use Rattle.gl_query.specs.Refusals.{nesting, may_nest}
 use Rattle.gl_query.specs.Building.{Layer, Building, empty, split, with_operand, completed, whole, one_negation, closed, open_before, grown}
 use Rattle.gl_query.specs.Building as building
-use Rattle.gl_query.specs.Reading.{and_then, built_from, ended, read_tree}
+use Rattle.gl_query.specs.QueryReading.{and_then, built_from, ended, read_tree}
 
 -- trees behind others
 abbrev pub appended : Trees → Trees → Trees

@@ -8,7 +8,7 @@ use Rattle.gl_query.specs.declared.step.Want.TheVariants.{Start, Operator}
 use Rattle.gl_query.specs.Tree.{Tree, leaf}
 use Rattle.gl_query.specs.Refusals.{may_end}
 use Rattle.gl_query.specs.Building.{Layer, Building, open_before, outer_nodes, outer_levels, level_of}
-use Rattle.gl_query.specs.Reading.{tree_of, ended, position_of, units, and_then, built_from, read_tree}
+use Rattle.gl_query.specs.QueryReading.{tree_of, ended, position_of, units, and_then, built_from, read_tree}
 use Rattle.std.proofs.Common.{◌≤◌, min, nat_lt}
 use Rattle.gl_query.specs.declared.token.Token.{Token}
 use Rattle.gl_query.specs.Steps.{step_of}

@@ -8,7 +8,7 @@ use Rattle.gl_query.specs.declared.term.Node.TheVariants.{Negation, Both, Either
 use Rattle.gl_query.specs.declared.builder.Level.{Level}
 use Rattle.gl_query.specs.Tree.{Tree, both, either, Trees, none, also, count, polish, polish_all, push, one_of, negated}
 use Rattle.gl_query.specs.Refusals.{nesting}
-use Rattle.gl_query.specs.Building.{Layer, empty, split, with_operand, one_negation, open_before, layer_nodes, outer_nodes, outer_levels, KeepsParts}
+use Rattle.gl_query.specs.Building.{Layer, empty, split, with_operand, one_negation, open_before, layer_nodes, outer_nodes, outer_levels, HasParts}
 
 pub polish_push : (ts : Trees) (t : Tree) → polish_all (push ts t) ≡ polish_all ts ++ polish t
 polish_push none t = append-nil (polish t)
@@ -51,16 +51,16 @@ module _ (level : Level) (levels : List Level) (depth : ℕ) (nodes : List Node)
   abbrev before : List Node
   before = outer_nodes outer ++ polish_all here.alternatives
 
-  before_len : KeepsParts level levels depth nodes here outer [] → level.factors_at ≡ length before
+  before_len : HasParts level levels depth nodes here outer [] → level.factors_at ≡ length before
   before_len k = ap (λ (l : Level). l.factors_at) k.level_is ∙ sym (length-append (outer_nodes outer) (polish_all here.alternatives))
 
-  split_nodes : KeepsParts level levels depth nodes here outer [] → here.negations ≡ 0 → nodes ≡ before ++ polish_all here.factors
+  split_nodes : HasParts level levels depth nodes here outer [] → here.negations ≡ 0 → nodes ≡ before ++ polish_all here.factors
   split_nodes k e = k.nodes_are ∙ append-nil _ ∙ ap (λ ns. outer_nodes outer ++ ns) (settled_nodes here e) ∙ sym (append_assoc (outer_nodes outer) (polish_all here.alternatives) (polish_all here.factors))
 
-  pub split_place : KeepsParts level levels depth nodes here outer [] → here.negations ≡ 0 → level.factors_at ≤ length nodes
+  pub split_place : HasParts level levels depth nodes here outer [] → here.negations ≡ 0 → level.factors_at ≤ length nodes
   split_place k e = omega (arith, before_len k, ap length (split_nodes k e), length-append before (polish_all here.factors))
 
-  split_grows : (after : List Node) → KeepsParts level levels depth nodes here outer [] → here.negations ≡ 0
+  split_grows : (after : List Node) → HasParts level levels depth nodes here outer [] → here.negations ≡ 0
       → after ≡ cond (eqb level.factors 1) nodes (insert nodes level.factors_at (Both level.factors)) → after ≡ outer_nodes outer ++ polish_all (split here).alternatives
   split_grows after k e h =
       h ∙ ap (λ ns. cond (eqb level.factors 1) ns (insert ns level.factors_at (Both level.factors))) (split_nodes k e)
@@ -70,9 +70,9 @@ module _ (level : Level) (levels : List Level) (depth : ℕ) (nodes : List Node)
       ∙ append_assoc (outer_nodes outer) (polish_all here.alternatives) (polish (one_of both here.factors))
       ∙ ap (λ ns. outer_nodes outer ++ ns) (sym (polish_push here.alternatives (one_of both here.factors)))
 
-  pub keeps_split : (after : List Node) → KeepsParts level levels depth nodes here outer [] → here.negations ≡ 0
+  pub keeps_split : (after : List Node) → HasParts level levels depth nodes here outer [] → here.negations ≡ 0
       → after ≡ cond (eqb level.factors 1) nodes (insert nodes level.factors_at (Both level.factors))
-      → KeepsParts (record { negations = level.negations; start = level.start; alternatives = level.alternatives + 1; factors_at = length after; factors = 0 }) levels depth after (split here) outer []
+      → HasParts (record { negations = level.negations; start = level.start; alternatives = level.alternatives + 1; factors_at = length after; factors = 0 }) levels depth after (split here) outer []
   keeps_split after k e h =
       let grows = split_grows after k e h in
       record {
@@ -86,8 +86,8 @@ module _ (level : Level) (levels : List Level) (depth : ℕ) (nodes : List Node)
         depth_is = k.depth_is;
       }
 
-  pub keeps_operand : (t : Tree) → KeepsParts level levels depth nodes here outer (polish t)
-      → KeepsParts (record { negations = 0; start = level.start; alternatives = level.alternatives; factors_at = level.factors_at; factors = level.factors + 1 }) levels (depth - level.negations) nodes (with_operand t here) outer []
+  pub keeps_operand : (t : Tree) → HasParts level levels depth nodes here outer (polish t)
+      → HasParts (record { negations = 0; start = level.start; alternatives = level.alternatives; factors_at = level.factors_at; factors = level.factors + 1 }) levels (depth - level.negations) nodes (with_operand t here) outer []
   keeps_operand t k =
       record {
         level_is =
@@ -113,8 +113,8 @@ module _ (level : Level) (levels : List Level) (depth : ℕ) (nodes : List Node)
           ∙ sym (polish_push here.factors (negated here.negations t))
           ∙ sym (append-nil _)))
 
-  pub keeps_negation : KeepsParts level levels depth nodes here outer []
-      → KeepsParts (record { negations = level.negations + 1; start = level.start; alternatives = level.alternatives; factors_at = level.factors_at; factors = level.factors }) levels (depth + 1) (nodes ++ Negation ∷ []) (one_negation here) outer []
+  pub keeps_negation : HasParts level levels depth nodes here outer []
+      → HasParts (record { negations = level.negations + 1; start = level.start; alternatives = level.alternatives; factors_at = level.factors_at; factors = level.factors }) levels (depth + 1) (nodes ++ Negation ∷ []) (one_negation here) outer []
   keeps_negation k =
       record {
         level_is = ap (λ (l : Level). record { negations = l.negations + 1; start = l.start; alternatives = l.alternatives; factors_at = l.factors_at; factors = l.factors }) k.level_is;
@@ -134,8 +134,8 @@ module _ (level : Level) (levels : List Level) (depth : ℕ) (nodes : List Node)
       nest n [] = omega arith
       nest n (m ∷ ms) = omega arith
 
-  pub keeps_open : KeepsParts level levels depth nodes here outer []
-      → KeepsParts (record { negations = 0; start = length nodes; alternatives = 0; factors_at = length nodes; factors = 0 }) (levels ++ level ∷ []) (depth + 1) nodes empty (here ∷ outer) []
+  pub keeps_open : HasParts level levels depth nodes here outer []
+      → HasParts (record { negations = 0; start = length nodes; alternatives = 0; factors_at = length nodes; factors = 0 }) (levels ++ level ∷ []) (depth + 1) nodes empty (here ∷ outer) []
   keeps_open k =
       let same : nodes ≡ outer_nodes (here ∷ outer) = k.nodes_are ∙ append-nil _ in
       record {
@@ -150,22 +150,22 @@ module _ (level : Level) (levels : List Level) (depth : ℕ) (nodes : List Node)
       nest : (n : ℕ) → n + 1 ≡ 0 + 1 + n
       nest n = omega arith
 
-  pub keeps_more : (after more : List Node) → after ≡ nodes ++ more → KeepsParts level levels depth nodes here outer [] → KeepsParts level levels depth after here outer more
+  pub keeps_more : (after more : List Node) → after ≡ nodes ++ more → HasParts level levels depth nodes here outer [] → HasParts level levels depth after here outer more
   keeps_more after more e k =
       record { level_is = k.level_is; levels_are = k.levels_are; nodes_are = e ∙ ap (λ ns. ns ++ more) (k.nodes_are ∙ append-nil _); depth_is = k.depth_is }
 
-  pub keeps_room : (more : List Node) → KeepsParts level levels depth nodes here outer more → level.negations ≤ depth
+  pub keeps_room : (more : List Node) → HasParts level levels depth nodes here outer more → level.negations ≤ depth
   keeps_room more k = omega (arith, ap (λ (l : Level). l.negations) k.level_is, k.depth_is, room here.negations (open_before outer))
     where
       room : (n : ℕ) (ns : List ℕ) → n ≤ nesting n ns
       room n [] = omega arith
       room n (m ∷ ms) = omega arith
 
-  pub whole_place : KeepsParts level levels depth nodes here outer [] → level.start ≤ length nodes
+  pub whole_place : HasParts level levels depth nodes here outer [] → level.start ≤ length nodes
   whole_place k = omega (arith, ap (λ (l : Level). l.start) k.level_is, ap length (k.nodes_are ∙ append-nil _), length-append (outer_nodes outer) (layer_nodes here))
 
   -- the nodes of a layer that is whole
-  pub whole_nodes : (after : List Node) → KeepsParts level levels depth nodes here outer [] → here.negations ≡ 0 → here.factors ≡ none
+  pub whole_nodes : (after : List Node) → HasParts level levels depth nodes here outer [] → here.negations ≡ 0 → here.factors ≡ none
       → after ≡ cond (eqb level.alternatives 1) nodes (insert nodes level.start (Either level.alternatives)) → after ≡ outer_nodes outer ++ polish (one_of either here.alternatives)
   whole_nodes after k e f h =
       let same : nodes ≡ outer_nodes outer ++ polish_all here.alternatives =

@@ -10,7 +10,7 @@ use Rattle.gl_query.specs.declared.token.Edge.TheVariants.{Including, Excluding}
 use Rattle.gl_query.specs.declared.token.Token.{Token}
 use Rattle.gl_query.specs.declared.token.Token.TheVariants.{Word, Field, Exists, Phrase, Open, Close, And, Or, Not, To, Compare, Begin, End, Unreadable}
 use Rattle.gl_query.specs.Tokens.{ends_word, word_end, phrase_end, word_or_field, named_token, word_token, phrase_token, either_token, sign_token, text_token, token_or, token_at, tokens_from}
-use Rattle.gl_query.specs.Reading.{units}
+use Rattle.gl_query.specs.QueryReading.{units}
 use Rattle.gl_query.proofs.Steps.{token_comes}
 use Rattle.gl_query.proofs.Spelling.{has_byte}
 use Rattle.gl_query.proofs.Relexing.{lex, lex_space, places_free}

@@ -7,7 +7,7 @@ use Rattle.gl_query.specs.declared.token.Token.{Token}
 use Rattle.gl_query.specs.declared.token.Token.TheVariants.{Word, Field, Exists, Phrase}
 use Rattle.gl_query.specs.declared.token.Token.TheVariants as token
 use Rattle.gl_query.specs.Tokens.{ends_word, word_end, phrase_end, word_or_field, named_token, word_token, phrase_token, sign_token, token_or, token_at, token_here, bytes_inside, tokens_from, tokens_of}
-use Rattle.gl_query.specs.Reading.{units}
+use Rattle.gl_query.specs.QueryReading.{units}
 use Rattle.gl_query.specs.Printing.{is_keyword, phrase_byte, phrase_text}
 use Rattle.std.specs.List.{flat_map}
 use Rattle.gl_query.proofs.Steps.{space_passes, token_comes}

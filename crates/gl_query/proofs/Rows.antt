@@ -1,7 +1,7 @@
 -- Worked rows: the definitions compute these required terms.
 use Rattle.std.specs.Prelude.{◌≡◌, ℕ, List, [], ◌∷◌, Option, Some, codes, option_map}
 use Rattle.std.proofs.Common.{refl}
-use Rattle.gl_query.specs.Reading.{read_tree, units, built_from}
+use Rattle.gl_query.specs.QueryReading.{read_tree, units, built_from}
 use Rattle.gl_query.specs.Required.{required}
 use Rattle.gl_query.specs.Texts.{runs_of, text_tokens}
 use Rattle.gl_query.specs.Tokens.{tokens_of, tokens_from, token_at, sign_token, word_end, phrase_end}

@@ -22,7 +22,7 @@ use Rattle.gl_query.specs.Grammar.{IsTerm, word, phrase, exists, field_word, fie
 use Rattle.gl_query.specs.Refusals.{nesting, may_nest, may_end}
 use Rattle.gl_query.specs.Building.{Layer, Building, empty, split, with_operand, completed, whole, one_negation, closed, open_before, grown}
 use Rattle.gl_query.specs.Building as building
-use Rattle.gl_query.specs.Reading.{and_then, built_from, tree_of, ended, read_tree}
+use Rattle.gl_query.specs.QueryReading.{and_then, built_from, tree_of, ended, read_tree}
 use Rattle.gl_query.proofs.Complete.{appended, appended_push, appended_one}
 
 some_same : {A : Type 0} {x y : A} → Some x ≡ Some y → x ≡ y

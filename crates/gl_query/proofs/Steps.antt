@@ -19,7 +19,7 @@ use Rattle.gl_query.specs.Steps.{operand_step, operator_step, content_step, name
 use Rattle.gl_query.specs.Tree.{Tree}
 use Rattle.gl_query.specs.Refusals.{Position, moved, may_nest, left, refused_behind, refused_from}
 use Rattle.gl_query.specs.Building.{Layer, Building, is_operator, parted, closed, whole, open_before, grown, IsFit}
-use Rattle.gl_query.specs.Reading.{position_of, and_then, built_from, units}
+use Rattle.gl_query.specs.QueryReading.{position_of, and_then, built_from, units}
 
 -- the bytes of a token are passed over
 tokens_past : (k at : ℕ) (text : List ℕ) → tokens_from at k text ≡ tokens_from (at + k) 0 (drop k text)

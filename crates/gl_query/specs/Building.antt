@@ -96,21 +96,21 @@ outer_levels [] = []
 outer_levels (l ∷ outer) = outer_levels outer ++ level_of (length (outer_nodes outer)) l ∷ []
 
 -- what is kept stands for this layer and those around it, with more nodes behind
-pub record KeepsParts (level : Level) (levels : List Level) (depth : ℕ) (nodes : List Node) (here : Layer) (outer : List Layer) (more : List Node) : Type 0 where
+pub record HasParts (level : Level) (levels : List Level) (depth : ℕ) (nodes : List Node) (here : Layer) (outer : List Layer) (more : List Node) : Type 0 where
   pub level_is : level ≡ level_of (length (outer_nodes outer)) here
   pub levels_are : levels ≡ outer_levels outer
   pub nodes_are : nodes ≡ (outer_nodes outer ++ layer_nodes here) ++ more
   pub depth_is : depth ≡ nesting here.negations (open_before outer)
 
-abbrev pub Keeps : Builder → Layer → List Layer → List Node → Type 0
-Keeps k here outer more = KeepsParts k.level k.outer.items k.depth k.nodes.items here outer more
+abbrev pub HasLayers : Builder → Layer → List Layer → List Node → Type 0
+HasLayers k here outer more = HasParts k.level k.outer.items k.depth k.nodes.items here outer more
 
 -- behind an operand no NOT is left over
 abbrev pub IsSettled : Building → Type 0
 IsSettled b = is_operator b.want ≡ true → b.here.negations ≡ 0
 
-pub record Stands (k : Builder) (b : Building) : Type 0 where
-  pub keeps : Keeps k b.here b.outer []
+pub record StandsFor (k : Builder) (b : Building) : Type 0 where
+  pub keeps : HasLayers k b.here b.outer []
   pub settled : IsSettled b
 
 -- a layer is whole, and what is kept around it stays
@@ -122,7 +122,7 @@ pub record IsWhole (old new : Builder) (here : Layer) (outer : List Layer) : Typ
 -- a parenthesis ends around this tree, if one is open
 abbrev pub Closed : Builder → Bool → Tree → List Layer → Type 0
 Closed k true t [] = ⊥
-Closed k true t (l ∷ outer) = Keeps k (with_operand t l) outer []
+Closed k true t (l ∷ outer) = HasLayers k (with_operand t l) outer []
 Closed k false t [] = ⊤
 Closed k false t (l ∷ outer) = ⊥
 
@@ -140,4 +140,4 @@ IsFit behind Splits = behind ≡ true
 -- what is kept stands for what grew, and this is wanted next
 abbrev pub Grew : Builder → Option Want → Option Building → Type 0
 Grew k None b = b ≡ None
-Grew k (Some want) b = (c : Building) × (b ≡ Some c) × (c.want ≡ want) × Stands k c
+Grew k (Some want) b = (c : Building) × (b ≡ Some c) × (c.want ≡ want) × StandsFor k c

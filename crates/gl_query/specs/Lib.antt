@@ -4,7 +4,7 @@ pub mod Steps
 pub mod Tree
 pub mod Refusals
 pub mod Building
-pub mod Reading
+pub mod QueryReading
 pub mod Grammar
 pub mod Refused
 pub mod Ending

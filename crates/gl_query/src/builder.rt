@@ -4,9 +4,9 @@ ghost use Rattle.std.specs.List.{insert};
 ghost use Rattle.gl_query.specs.declared.term.Node.{Node};
 ghost use Rattle.gl_query.specs.Tree.{Tree, leaf, polish};
 ghost use Rattle.gl_query.specs.Refusals.{may_end};
-ghost use Rattle.gl_query.specs.Reading.{ended};
+ghost use Rattle.gl_query.specs.QueryReading.{ended};
 ghost use Rattle.gl_query.specs.Ending.{Ends};
-ghost use Rattle.gl_query.specs.Building.{Layer, Building, Keeps, Stands, IsFit, IsWhole, Closed, Grew, begun, empty, is_operator, split, parted, with_operand, whole, one_negation, grown};
+ghost use Rattle.gl_query.specs.Building.{Layer, Building, HasLayers, StandsFor, IsFit, IsWhole, Closed, Grew, begun, empty, is_operator, split, parted, with_operand, whole, one_negation, grown};
 
 use crate::step::{Step, Want};
 use crate::term::{Node, Term};
@@ -78,7 +78,7 @@ fn group(nodes: &mut Vec<Node>, at: usize, count: usize, operation: Node) -> Res
 
 impl Builder {
     pub(crate) fn new(alloc: Global) -> Builder
-        ensures { Stands result begun }
+        ensures { StandsFor result begun }
     {
         Builder {
             level: Level {
@@ -96,9 +96,9 @@ impl Builder {
 
     // An alternative has ended.
     fn split(&mut self) -> Result<(), AllocError>
-        requires { (here : Layer) × (outer : List Layer) × Keeps self.old here outer [] × (here.negations ≡ 0) }
-        ensures { (here : Layer) (outer : List Layer) → Keeps self.old here outer [] → here.negations ≡ 0
-            → OnOk result (Keeps self.new (split here) outer []) }
+        requires { (here : Layer) × (outer : List Layer) × HasLayers self.old here outer [] × (here.negations ≡ 0) }
+        ensures { (here : Layer) (outer : List Layer) → HasLayers self.old here outer [] → here.negations ≡ 0
+            → OnOk result (HasLayers self.new (split here) outer []) }
     {
         let alternatives = one_more(self.level.alternatives)?;
         let factors = self.level.factors;
@@ -120,9 +120,9 @@ impl Builder {
 
     // An operand begins.
     fn part(&mut self, behind: bool) -> Result<(), AllocError>
-        requires { (here : Layer) × (outer : List Layer) × Keeps self.old here outer [] × (behind ≡ true → here.negations ≡ 0) }
-        ensures { (here : Layer) (outer : List Layer) → Keeps self.old here outer [] → (behind ≡ true → here.negations ≡ 0)
-            → OnOk result (Keeps self.new (parted behind here) outer []) }
+        requires { (here : Layer) × (outer : List Layer) × HasLayers self.old here outer [] × (behind ≡ true → here.negations ≡ 0) }
+        ensures { (here : Layer) (outer : List Layer) → HasLayers self.old here outer [] → (behind ≡ true → here.negations ≡ 0)
+            → OnOk result (HasLayers self.new (parted behind here) outer []) }
     {
         if behind {
             return self.split();
@@ -132,9 +132,9 @@ impl Builder {
 
     // An operand has ended, whose nodes stand at the end.
     fn complete(&mut self) -> Result<(), AllocError>
-        requires { (here : Layer) × (outer : List Layer) × (t : Tree) × Keeps self.old here outer (polish t) }
-        ensures { (here : Layer) (outer : List Layer) (t : Tree) → Keeps self.old here outer (polish t)
-            → OnOk result (Keeps self.new (with_operand t here) outer []) }
+        requires { (here : Layer) × (outer : List Layer) × (t : Tree) × HasLayers self.old here outer (polish t) }
+        ensures { (here : Layer) (outer : List Layer) (t : Tree) → HasLayers self.old here outer (polish t)
+            → OnOk result (HasLayers self.new (with_operand t here) outer []) }
     {
         let level = self.level;
         let factors = one_more(level.factors)?;
@@ -150,18 +150,18 @@ impl Builder {
     }
 
     fn add_leaf(&mut self, term: Term) -> Result<(), AllocError>
-        requires { (here : Layer) × (outer : List Layer) × Keeps self.old here outer [] }
-        ensures { (here : Layer) (outer : List Layer) → Keeps self.old here outer []
-            → OnOk result (Keeps self.new (with_operand (leaf term) here) outer []) }
+        requires { (here : Layer) × (outer : List Layer) × HasLayers self.old here outer [] }
+        ensures { (here : Layer) (outer : List Layer) → HasLayers self.old here outer []
+            → OnOk result (HasLayers self.new (with_operand (leaf term) here) outer []) }
     {
         self.nodes.push(Node::Leaf(term))?;
         self.complete()
     }
 
     fn negate(&mut self) -> Result<(), AllocError>
-        requires { (here : Layer) × (outer : List Layer) × Keeps self.old here outer [] × (self.old.depth < 64) }
-        ensures { (here : Layer) (outer : List Layer) → Keeps self.old here outer []
-            → OnOk result (Keeps self.new (one_negation here) outer []) }
+        requires { (here : Layer) × (outer : List Layer) × HasLayers self.old here outer [] × (self.old.depth < 64) }
+        ensures { (here : Layer) (outer : List Layer) → HasLayers self.old here outer []
+            → OnOk result (HasLayers self.new (one_negation here) outer []) }
     {
         self.nodes.push(Node::Negation)?;
         let level = self.level;
@@ -178,8 +178,8 @@ impl Builder {
 
     fn open(&mut self) -> Result<(), AllocError>
         requires { self.old.depth < 64 }
-        ensures { (here : Layer) (outer : List Layer) → Keeps self.old here outer []
-            → OnOk result (Keeps self.new empty (here ∷ outer) []) }
+        ensures { (here : Layer) (outer : List Layer) → HasLayers self.old here outer []
+            → OnOk result (HasLayers self.new empty (here ∷ outer) []) }
     {
         let level = self.level;
         self.outer.push(level)?;
@@ -197,8 +197,8 @@ impl Builder {
 
     // What stands inside the parentheses has ended.
     fn close_layer(&mut self) -> Result<(), AllocError>
-        requires { (here : Layer) × (outer : List Layer) × Keeps self.old here outer [] × (here.negations ≡ 0) }
-        ensures { (here : Layer) (outer : List Layer) → Keeps self.old here outer [] → here.negations ≡ 0
+        requires { (here : Layer) × (outer : List Layer) × HasLayers self.old here outer [] × (here.negations ≡ 0) }
+        ensures { (here : Layer) (outer : List Layer) → HasLayers self.old here outer [] → here.negations ≡ 0
             → OnOk result (IsWhole self.old self.new here outer) }
     {
         self.split()?;
@@ -213,8 +213,8 @@ impl Builder {
 
     // A parenthesis ends; there is none where none is open.
     fn close(&mut self) -> Result<bool, AllocError>
-        requires { (here : Layer) × (outer : List Layer) × Keeps self.old here outer [] × (here.negations ≡ 0) }
-        ensures { (here : Layer) (outer : List Layer) → Keeps self.old here outer [] → here.negations ≡ 0
+        requires { (here : Layer) × (outer : List Layer) × HasLayers self.old here outer [] × (here.negations ≡ 0) }
+        ensures { (here : Layer) (outer : List Layer) → HasLayers self.old here outer [] → here.negations ≡ 0
             → IfOk result (λ closes. Closed self.new closes (whole here) outer) }
     {
         self.close_layer()?;
@@ -231,8 +231,8 @@ impl Builder {
 
     /// Takes what a token does, and answers what is wanted next, if it may stand here.
     pub(crate) fn take(&mut self, behind: bool, step: Step) -> Result<Option<Want>, AllocError>
-        requires { (b : Building) × Stands self.old b × (is_operator b.want ≡ behind) × IsFit behind step }
-        ensures { (b : Building) → Stands self.old b → is_operator b.want ≡ behind → IsFit behind step
+        requires { (b : Building) × StandsFor self.old b × (is_operator b.want ≡ behind) × IsFit behind step }
+        ensures { (b : Building) → StandsFor self.old b → is_operator b.want ≡ behind → IsFit behind step
             → IfOk result (λ next. Grew self.new next (grown step b)) }
     {
         match step {
@@ -278,8 +278,8 @@ impl Builder {
 
     // The nodes of the whole; there are none where a query can't end.
     fn whole_nodes(mut self, want: &Want) -> Result<Option<Vec<Node>>, AllocError>
-        requires { (b : Building) × Stands self b × (b.want ≡ want.now) }
-        ensures { (b : Building) → Stands self b → b.want ≡ want.now → b.outer ≡ []
+        requires { (b : Building) × StandsFor self b × (b.want ≡ want.now) }
+        ensures { (b : Building) → StandsFor self b → b.want ≡ want.now → b.outer ≡ []
             → IfOk result (λ nodes. Ends nodes (ended b)) }
     {
         match want {
@@ -306,8 +306,8 @@ impl Builder {
 
     /// The nodes of the whole; there are none where a query can't end.
     pub(crate) fn finish(self, want: &Want) -> Result<Option<Vec<Node>>, AllocError>
-        requires { (b : Building) × Stands self b × (b.want ≡ want.now) }
-        ensures { (b : Building) → Stands self b → b.want ≡ want.now → IfOk result (λ nodes. Ends nodes (ended b)) }
+        requires { (b : Building) × StandsFor self b × (b.want ≡ want.now) }
+        ensures { (b : Building) → StandsFor self b → b.want ≡ want.now → IfOk result (λ nodes. Ends nodes (ended b)) }
     {
         if !self.outer.is_empty() {
             return Ok(None);

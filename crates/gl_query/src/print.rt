@@ -7,7 +7,7 @@ ghost use Rattle.gl_query.specs.declared.term.Node.{Node};
 ghost use Rattle.gl_query.specs.Tokens.{ends_word, tokens_of};
 ghost use Rattle.gl_query.specs.Tree.{Tree, Trees, count as count_of, polish, polish_all};
 ghost use Rattle.gl_query.specs.Grammar.{IsQuery};
-ghost use Rattle.gl_query.specs.Reading.{units};
+ghost use Rattle.gl_query.specs.QueryReading.{units};
 ghost use Rattle.gl_query.specs.Printing.{spelled, name_byte, phrase_byte, piece_text, is_keyword, name_text, phrase_text, pattern_text, field_text, low_text, high_text, term_text, tree_text, members_text, depth, Prints};
 
 use crate::decimal::push_decimal;

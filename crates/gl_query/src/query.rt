@@ -1,6 +1,6 @@
 ghost use Rattle.std.specs.Prelude.{◌≡◌};
 ghost use Rattle.gl_query.specs.Tree.{Tree, polish};
-ghost use Rattle.gl_query.specs.Reading.{IsRead};
+ghost use Rattle.gl_query.specs.QueryReading.{IsRead};
 ghost use Rattle.gl_query.specs.Required.{AreRequired, required, terms_of};
 
 use crate::required::RequiredTerm;
@@ -23,7 +23,7 @@ impl Model for Query {
 
     ghost view = { λ q. q.nodes.items };
 
-    ghost use Rattle.gl_query.specs.Reading.{IsRead};
+    ghost use Rattle.gl_query.specs.QueryReading.{IsRead};
     ghost use Rattle.gl_query.specs.Required.{AreRequired};
 
     ghost invariant = { λ q. IsRead q.nodes.items × AreRequired q.required.items q.nodes.items };

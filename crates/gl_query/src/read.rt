@@ -7,8 +7,8 @@ ghost use Rattle.gl_query.specs.Tokens.{tokens_of, tokens_from};
 ghost use Rattle.gl_query.specs.Tree.{Tree, polish};
 ghost use Rattle.gl_query.specs.Refused.{IsRefusedAt, TellsRefusal};
 ghost use Rattle.gl_query.specs.Refusals.{refusal_of, refused_from, start};
-ghost use Rattle.gl_query.specs.Building.{Building, Stands, begun};
-ghost use Rattle.gl_query.specs.Reading.{position_of, built_from, units, ended, read_tree};
+ghost use Rattle.gl_query.specs.Building.{Building, StandsFor, begun};
+ghost use Rattle.gl_query.specs.QueryReading.{position_of, built_from, units, ended, read_tree};
 
 use crate::builder::{Builder, is_operator};
 use crate::lexer::{byte_at, token_at};
@@ -33,7 +33,7 @@ fn bad_query(at: usize) -> QueryRefusal
 // What stands behind the tokens of a text, and what is wanted there.
 fn read_tokens(alloc: Global, text: &[u8]) -> Result<(Want, Builder), QueryRefusal>
     requires { length text.now < 2 ^ 63 }
-    ensures taken { IfOk result (λ r. (b : Building) × (built_from begun (units (tokens_of text.now)) ≡ Some b) × Stands r.1 b × (b.want ≡ r.0)
+    ensures taken { IfOk result (λ r. (b : Building) × (built_from begun (units (tokens_of text.now)) ≡ Some b) × StandsFor r.1 b × (b.want ≡ r.0)
         × (refused_from start (tokens_of text.now) (length text.now) ≡ refused_from (position_of b) [] (length text.now))) }
     ensures refused { IfErr result (λ e. e ≢ OutOfMemory
         → IsRefusedAt e (refused_from start (tokens_of text.now) (length text.now))) }

@@ -13,7 +13,7 @@ use Rattle.gl_syslogtext.specs.declared.parts.Parts.{Parts}
 use Rattle.gl_syslogtext.specs.declared.bsd.BsdParts.{BsdParts}
 use Rattle.gl_syslog.specs.declared.content.Content.{Content}
 use Rattle.gl_syslogtext.specs.Sections.{pri_at}
-use Rattle.gl_syslogtext.specs.Reading.{parts_of}
+use Rattle.gl_syslogtext.specs.MessageReading.{parts_of}
 use Rattle.gl_syslogtext.specs.Rfc3164.{bsd_parts_of, tag_of, process_of}
 use Rattle.gl_syslog.specs.Moments.{time_of, bsd_time, kept_or}
 

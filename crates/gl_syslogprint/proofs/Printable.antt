@@ -10,7 +10,7 @@ use Rattle.gl_syslogtext.specs.declared.parts.Parts.{Parts}
 use Rattle.std.specs.Char.{is_ascii_digit}
 use Rattle.gl_base.specs.Digits.{decimal}
 use Rattle.gl_syslogtext.specs.Sections.{pri_value, pri_in, two_at, hour_minute_at, clock_at, is_date, date_at, fraction_at, minutes, shift_of, offset_of, time_of, stamp_of}
-use Rattle.gl_syslogtext.specs.Reading.{are_distinct, ids_of}
+use Rattle.gl_syslogtext.specs.MessageReading.{are_distinct, ids_of}
 use Rattle.gl_syslogtext.specs.Rfc5424.{has_none, IsSection, Reads5424}
 use Rattle.gl_syslogprint.specs.Printing.{two_digits, pri_digits, is_offset, is_moment, is_time, is_stamp, stamp_text, is_name, name_text, is_element, data_text, is_message, message_text, is_header, are_lawful, text_of}
 use Rattle.std.proofs.lemmas.Bool.{and_parts as and_both, and_from as and_holds}

@@ -8,7 +8,7 @@ use Rattle.gl_syslogtext.specs.declared.parts.Parts.{Parts}
 use Rattle.std.specs.Char.{is_ascii_digit, is_ascii_graphic}
 use Rattle.gl_syslogtext.specs.Sections.{is_date}
 use Rattle.gl_syslogtext.specs.Data.{is_special, has_bom}
-use Rattle.gl_syslogtext.specs.Reading.{are_distinct, ids_of}
+use Rattle.gl_syslogtext.specs.MessageReading.{are_distinct, ids_of}
 use Rattle.gl_syslogtext.specs.Rfc5424.{is_sd_name, up_to}
 
 -- two digits of a number up to 99

@@ -7,7 +7,7 @@ use Rattle.std.proofs.lemmas.List.Folds.{list_any-append}
 use Rattle.std.proofs.lemmas.Slice.Eq.{bytes_eq-Decides}
 use Rattle.std.proofs.lemmas.Bool.Decides.{same_from_decides, Decides-like}
 use Rattle.gl_syslogtext.specs.declared.parts.Element.{Element}
-use Rattle.gl_syslogtext.specs.Reading.{are_distinct, ids_of}
+use Rattle.gl_syslogtext.specs.MessageReading.{are_distinct, ids_of}
 
 pub eq_sym : (x y : List ℕ) → bytes_eq x y ≡ bytes_eq y x
 eq_sym x y = same_from_decides (bytes_eq x y) (bytes_eq y x) (bytes_eq-Decides x y) (Decides-like (bytes_eq y x) sym sym (bytes_eq-Decides y x))

@@ -8,7 +8,7 @@ use Rattle.gl_syslogtext.specs.declared.parts.Stamp.{Stamp}
 use Rattle.gl_syslogtext.specs.declared.parts.Parts.{Parts}
 use Rattle.gl_syslogtext.specs.Sections.{split, pri_in, pri_at, stamp_of, stamp_at, name_of, name_at}
 use Rattle.gl_syslogtext.specs.Data.{data_at, has_bom, without_bom, message_of}
-use Rattle.gl_syslogtext.specs.Reading.{are_distinct, ids_of, elements_of, version_at, parts_of}
+use Rattle.gl_syslogtext.specs.MessageReading.{are_distinct, ids_of, elements_of, version_at, parts_of}
 use Rattle.gl_syslogtext.specs.Rfc5424.{IsData, up_to, Reads5424}
 use Rattle.gl_syslogtext.proofs.Peel.{bind_ok, bind_then, some_is, guard_ok, split_again, split_sound, section_at, section_again, section_sound}
 use Rattle.gl_syslogtext.proofs.Elements.{data_sound, data_again}

@@ -1,5 +1,5 @@
 pub mod Sections
 pub mod Data
-pub mod Reading
+pub mod MessageReading
 pub mod Rfc5424
 pub mod Rfc3164

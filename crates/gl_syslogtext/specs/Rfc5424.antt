@@ -5,7 +5,7 @@ use Rattle.gl_syslogtext.specs.declared.parts.Element.{Element}
 use Rattle.gl_syslogtext.specs.declared.parts.Parts.{Parts}
 use Rattle.gl_syslogtext.specs.Sections.{pri_in, stamp_of, name_of}
 use Rattle.gl_syslogtext.specs.Data.{is_sd_byte, value_len, unescaped, message_of}
-use Rattle.gl_syslogtext.specs.Reading.{are_distinct, ids_of}
+use Rattle.gl_syslogtext.specs.MessageReading.{are_distinct, ids_of}
 
 abbrev pub has_none : ℕ → List ℕ → Bool
 has_none c text = list_all (λ b. not (b == c)) text

@@ -3,7 +3,7 @@ ghost use Rattle.std.specs.Prelude.{◌≡◌, ℕ, List, Some};
 ghost use Rattle.gl_syslogtext.specs.declared.parts.Parts.{Parts};
 ghost use Rattle.gl_syslogtext.specs.declared.bsd.BsdParts.{BsdParts};
 ghost use Rattle.gl_syslogtext.specs.Rfc5424.{Reads5424};
-ghost use Rattle.gl_syslogtext.specs.Reading.{parts_of};
+ghost use Rattle.gl_syslogtext.specs.MessageReading.{parts_of};
 ghost use Rattle.gl_syslogtext.specs.Rfc3164.{Reads3164, bsd_parts_of};
 
 /// A text reads as a message of RFC 5424, and one of RFC 3164, exactly where the grammar has it, and with those parts.

@@ -2,7 +2,7 @@
 //!
 //! `read_5424` reads exactly the messages of RFC 5424 with version 1, and gives their parts. The grammar is a relation
 //! between a whole text and its parts (`specs/Rfc5424`, over `specs/Sections` and `specs/Data`); how it is read from left
-//! to right is told in `specs/Reading`. `read_3164` reads exactly the texts of the BSD form (`specs/Rfc3164`). That the one
+//! to right is told in `specs/MessageReading`. `read_3164` reads exactly the texts of the BSD form (`specs/Rfc3164`). That the one
 //! way of telling is the other is a law, which holds whatever the calls answer for want of memory
 //! (`law_messages_are_read`).
 //!

@@ -3,7 +3,7 @@ ghost use Rattle.std.specs.Prelude.{◌≡◌, IfOk, IfSome, Some};
 ghost use Rattle.gl_syslogtext.specs.declared.parts.Parts.{Parts};
 ghost use Rattle.gl_syslogtext.specs.Rfc5424.{Reads5424};
 ghost use Rattle.gl_syslogtext.specs.Sections.{Gives};
-ghost use Rattle.gl_syslogtext.specs.Reading.{are_distinct, ids_of, elements_of, version_at, parts_of};
+ghost use Rattle.gl_syslogtext.specs.MessageReading.{are_distinct, ids_of, elements_of, version_at, parts_of};
 
 use crate::data::{data_at, message_of};
 use crate::sections::{MAX_APP, MAX_HOST, MAX_MSG_ID, MAX_PROC_ID, name_at, pri_at, split_space};
@@ -27,7 +27,7 @@ pub fn are_distinct(alloc: Global, elements: &[Element]) -> Result<bool, AllocEr
     Ok(true)
 }
 
-#[tactic(auto, unfolding(crate::specs::Reading::elements_of))]
+#[tactic(auto, unfolding(crate::specs::MessageReading::elements_of))]
 fn elements_of(alloc: Global, text: &str) -> Result<(Items<Element>, &str), Unread>
     ensures { Gives (λ x. (x.0, x.1.now)) result (elements_of text.now) }
 {
@@ -38,7 +38,7 @@ fn elements_of(alloc: Global, text: &str) -> Result<(Items<Element>, &str), Unre
     Ok((elements, rest))
 }
 
-#[tactic(auto, unfolding(crate::specs::Reading::version_at))]
+#[tactic(auto, unfolding(crate::specs::MessageReading::version_at))]
 fn version_at(text: &str) -> Result<&str, Unread>
     ensures { Gives (λ x. x.now) result (version_at text.now) }
 {
@@ -49,7 +49,7 @@ fn version_at(text: &str) -> Result<&str, Unread>
     Ok(rest)
 }
 
-#[tactic(auto, unfolding(crate::specs::Reading::parts_of))]
+#[tactic(auto, unfolding(crate::specs::MessageReading::parts_of))]
 fn parts_of(alloc: Global, text: &str) -> Result<Parts, Unread>
     ensures { Gives (λ x. x) result (parts_of text.now) }
 {

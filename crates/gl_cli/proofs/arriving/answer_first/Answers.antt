@@ -3,7 +3,7 @@ use Rattle.std.specs.Prelude.{Some, None, codes, nat_le}
 use Rattle.gl_node.specs.State.{State}
 use Rattle.gl_cli.specs.declared.connections.Open.{Open}
 use Rattle.gl_cli.specs.Connections.{Connection, most_connections}
-use Rattle.gl_cli.specs.Opened.{Stand, begun}
+use Rattle.gl_cli.specs.Opened.{ConnectionsStandFor, begun}
 use Rattle.gl_cli.specs.Runs.{answered, sent_turn, tcp_turn_by}
 use Rattle.gl_cli.proofs.Pieces.{after_begins, after_full, begins_is, full_is, open_at_first}
 use Rattle.gl_cli.proofs.Places.{as_many_open, stand_more}
@@ -46,7 +46,7 @@ returns-in_err-send-clause-cut_leaves g c = OnErr-from c.from_residual.result (�
 
 pub returns-then-is_full-clause-connections : goal.returns-then-is_full-clause-connections
 returns-then-is_full-clause-connections g c cs stand =
-    subst (λ (ds : List Connection). Stand c.args.connections.now.all.items ds) (after_full cs c.args.input.now c.args.number c.args.peer.now c.args.piece.now c.args.kind (ap (λ (n : ℕ). nat_le most_connections n) (sym (as_many_open c.args.connections.now.all.items cs stand)) ∙ sym c.is_full.ensures ∙ c.if-is_full.true)) stand
+    subst (λ (ds : List Connection). ConnectionsStandFor c.args.connections.now.all.items ds) (after_full cs c.args.input.now c.args.number c.args.peer.now c.args.piece.now c.args.kind (ap (λ (n : ℕ). nat_le most_connections n) (sym (as_many_open c.args.connections.now.all.items cs stand)) ∙ sym c.is_full.ensures ∙ c.if-is_full.true)) stand
 
 pub returns-then-is_full-clause-answered : goal.returns-then-is_full-clause-answered
 returns-then-is_full-clause-answered g c cs stand =
@@ -89,8 +89,8 @@ returns-clause-any_moment g c cs stand =
 
 pub returns-clause-connections : goal.returns-clause-connections
 returns-clause-connections g c cs stand =
-    subst (λ (ds : List Connection). Stand c.push_within.new.all.items ds) (after_begins cs c.args.input.now c.args.number c.args.peer.now c.args.piece.now c.args.kind (ap (λ (n : ℕ). nat_le most_connections n) (sym (as_many_open c.args.connections.now.all.items cs stand)) ∙ sym c.is_full.ensures ∙ c.if-is_full.false))
-    (subst (λ (all : List Open). Stand all (cs ++ record (begun c.args.input.now c.args.number c.args.kind c.args.peer.now) { bytes = c.args.piece.now } ∷ []))
+    subst (λ (ds : List Connection). ConnectionsStandFor c.push_within.new.all.items ds) (after_begins cs c.args.input.now c.args.number c.args.peer.now c.args.piece.now c.args.kind (ap (λ (n : ℕ). nat_le most_connections n) (sym (as_many_open c.args.connections.now.all.items cs stand)) ∙ sym c.is_full.ensures ∙ c.if-is_full.false))
+    (subst (λ (all : List Open). ConnectionsStandFor all (cs ++ record (begun c.args.input.now c.args.number c.args.kind c.args.peer.now) { bytes = c.args.piece.now } ∷ []))
     (sym (c.push_within.ensures ∙ ap (λ (all : List Open). all ++ c.answer_piece.new.one ∷ []) c.reserve.ensures.items))
     (stand_more c.args.connections.now.all.items cs c.answer_piece.new.one (record (begun c.args.input.now c.args.number c.args.kind c.args.peer.now) { bytes = c.args.piece.now }) stand
     (c.in_ok-answer_piece.ensures.one (begun c.args.input.now c.args.number c.args.kind c.args.peer.now) c.in_ok-one.ensures) c.requires.none))

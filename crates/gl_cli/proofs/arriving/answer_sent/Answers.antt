@@ -5,7 +5,7 @@ use Rattle.gl_node.specs.State.{State}
 use Rattle.gl_cli.specs.declared.connections.Open.{Open}
 use Rattle.gl_cli.specs.Answers.{arrival_words}
 use Rattle.gl_cli.specs.Connections.{Connection}
-use Rattle.gl_cli.specs.Opened.{IsOpen, Stand}
+use Rattle.gl_cli.specs.Opened.{IsOpen, ConnectionsStandFor}
 use Rattle.gl_cli.specs.Runs.{answered, begun_turn, tcp_turn, tcp_turn_by}
 use Rattle.gl_cli.proofs.Pieces.{after_begun, after_first, after_unknown, begun_is, first_is, unknown_is}
 use Rattle.gl_cli.proofs.Places.{none_named, place_found, stand_sent}
@@ -32,7 +32,7 @@ returns-in_default-clause-any_moment g c cs stand =
 
 pub returns-in_default-clause-connections : goal.returns-in_default-clause-connections
 returns-in_default-clause-connections g c cs stand s kept =
-    subst (λ (ds : List Connection). Stand c.args.connections.now.all.items ds) (after_unknown c.args.moment cs c.args.input.now c.args.number c.args.peer.now c.args.piece.now s (sym (c.in_default.ensures s kept.node))) stand
+    subst (λ (ds : List Connection). ConnectionsStandFor c.args.connections.now.all.items ds) (after_unknown c.args.moment cs c.args.input.now c.args.number c.args.peer.now c.args.piece.now s (sym (c.in_default.ensures s kept.node))) stand
 
 pub returns-in_default-clause-answered : goal.returns-in_default-clause-answered
 returns-in_default-clause-answered g c cs stand =
@@ -57,7 +57,7 @@ returns-in_default-place_of-clause-any_moment g c cs stand =
 
 pub returns-in_default-place_of-clause-connections : goal.returns-in_default-place_of-clause-connections
 returns-in_default-place_of-clause-connections g c cs stand s kept =
-    subst (λ (ds : List Connection). Stand c.answer_first.new.connections.all.items ds) (after_first c.args.moment cs c.args.input.now c.args.number c.args.peer.now c.args.piece.now s c.in-Some.kind (sym (c.in-Some.ensures s kept.node)) (none_named c.args.input.now c.args.number c.args.connections.now.all.items cs stand c.in_default-place_of.ensures)) (c.in_ok-answer_first.ensures.connections cs stand)
+    subst (λ (ds : List Connection). ConnectionsStandFor c.answer_first.new.connections.all.items ds) (after_first c.args.moment cs c.args.input.now c.args.number c.args.peer.now c.args.piece.now s c.in-Some.kind (sym (c.in-Some.ensures s kept.node)) (none_named c.args.input.now c.args.number c.args.connections.now.all.items cs stand c.in_default-place_of.ensures)) (c.in_ok-answer_first.ensures.connections cs stand)
 
 pub returns-in_default-place_of-clause-answered : goal.returns-in_default-place_of-clause-answered
 returns-in_default-place_of-clause-answered g c cs stand =
@@ -93,7 +93,7 @@ returns-clause-any_moment g c cs stand =
 pub returns-clause-connections : goal.returns-clause-connections
 returns-clause-connections g c cs stand s kept =
     let f = (place_found c.args.input.now c.args.number c.args.connections.now.all.items cs c.in-Some-place_of.place c.index_mut-one.result.now stand c.in-Some-place_of.ensures) in
-    subst (λ (ds : List Connection). Stand (set c.args.connections.now.all.items c.in-Some-place_of.place c.answer_begun.new.one) ds) (after_begun c.args.moment cs c.args.input.now c.args.number c.args.peer.now c.args.piece.now s c.in-Some.kind (sym (c.in-Some.ensures s kept.node)) f.one f.found)
+    subst (λ (ds : List Connection). ConnectionsStandFor (set c.args.connections.now.all.items c.in-Some-place_of.place c.answer_begun.new.one) ds) (after_begun c.args.moment cs c.args.input.now c.args.number c.args.peer.now c.args.piece.now s c.in-Some.kind (sym (c.in-Some.ensures s kept.node)) f.one f.found)
     (stand_sent c.args.connections.now.all.items cs c.args.input.now c.args.number c.in-Some-place_of.place c.args.peer.now c.args.piece.now f.one c.answer_begun.new.one stand c.in-Some-place_of.ensures f.input_is f.number_is
     (c.in_ok-answer_begun.ensures.one f.one (subst (λ (o : Open). IsOpen o f.one) (sym c.index_mut-one.ensures.value) f.opened)))
 

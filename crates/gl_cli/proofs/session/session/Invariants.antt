@@ -5,7 +5,7 @@ use Rattle.gl_outside.specs.Disk.{Tells}
 use Rattle.gl_node.specs.Node.{NodeOn, NodeReady}
 use Rattle.gl_node.specs.State.{Base, State, opened}
 use Rattle.gl_cli.specs.Connections.{Connection}
-use Rattle.gl_cli.specs.Opened.{Stand}
+use Rattle.gl_cli.specs.Opened.{ConnectionsStandFor}
 use Rattle.gl_cli.specs.Desk.{DeskKeeps}
 use Rattle.gl_cli.specs.Sessions.{ReadTo, StandFor}
 use Rattle.gl_cli.proofs.Exits.{Goes}
@@ -24,7 +24,7 @@ invariant-lines g l = record {
   running : (base : Base) → DeskKeeps l.fn.desk (opened base) → Goes (g.S.Source.left l.fn.source) base (g.K.Sink.contents l.fn.sink) (g.K.Sink.contents l.sink) (StandFor l.desk l.connections)
       (prepend_known l.reader.waiting (g.S.Source.left l.source)) l.reader.budget l.number l.moment;
   keeps : (s : State) × DeskKeeps l.desk s;
-  opens : (cs : List Connection) × Stand l.connections.all.items cs;
+  opens : (cs : List Connection) × ConnectionsStandFor l.connections.all.items cs;
   moment_fits : l.moment ≤ 253402300799999;
   ready : Tells (g.D.Disk.state l.fn.disk) → NodeReady l.desk.node (g.D.Disk.state l.disk);
   stands : Tells (g.D.Disk.state l.fn.disk) → NodeOn l.fn.desk.node (g.D.Disk.state l.fn.disk) → NodeOn l.desk.node (g.D.Disk.state l.disk);

@@ -1,7 +1,7 @@
 use Rattle.std.proofs.Common.{◌≡◌, ◌++◌, drop}
 use Rattle.std.specs.Prelude.{option_map}
 use Rattle.serde_json.specs.View.{items_view}
-use Rattle.gl_commands.specs.Reading.{each_of, extractor_in}
+use Rattle.gl_commands.specs.CommandReading.{each_of, extractor_in}
 use Rattle.gl_commands.proofs.extractors.extractors_at.Given as goal
 
 abbrev pub invariant-loop-value : goal.invariant-loop-value

@@ -2,7 +2,7 @@ use Rattle.std.proofs.Common.{◌≡◌, ◌++◌, drop}
 use Rattle.std.specs.Prelude.{option_map}
 use Rattle.serde_json.specs.View.{items_view}
 use Rattle.serde_json.specs.Find.{as_str}
-use Rattle.gl_commands.specs.Reading.{each_of}
+use Rattle.gl_commands.specs.CommandReading.{each_of}
 use Rattle.gl_commands.proofs.lists.texts_at.Given as goal
 
 abbrev pub invariant-loop-value : goal.invariant-loop-value

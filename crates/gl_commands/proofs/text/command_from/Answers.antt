@@ -1,7 +1,7 @@
 use Rattle.std.proofs.Common.{rules, ◌≡◌, ◌<◌, ◌≤◌, ◌∙◌, sym, subst, length, None, Some, IsUtf8}
 use Rattle.serde_json.specs.View.{view}
 use Rattle.gl_commands.specs.Texts.{command_bytes}
-use Rattle.gl_commands.specs.Reading.{keys_in}
+use Rattle.gl_commands.specs.CommandReading.{keys_in}
 use Rattle.gl_commands.proofs.Kept.{value_is, long_is_none, no_keys_are_none, lawful}
 use Rattle.gl_commands.proofs.text.command_from.Goals as goal
 

@@ -1,7 +1,7 @@
 use Rattle.std.proofs.Common.{rules, ◌≡◌, ◌<◌, ◌≤◌, ◌∙◌, sym, ap, length, None, Some, arith}
 use Rattle.serde_json.specs.View.{view}
 use Rattle.gl_commands.specs.Texts.{command_bytes}
-use Rattle.gl_commands.specs.Reading.{keys_in}
+use Rattle.gl_commands.specs.CommandReading.{keys_in}
 use Rattle.gl_commands.proofs.Kept.{text_is, of_kept, long_keeps_none, unread_keeps_none, other_keeps_none}
 use Rattle.gl_commands.proofs.text.decode_command.Goals as goal
 

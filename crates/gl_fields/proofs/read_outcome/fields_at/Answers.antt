@@ -1,6 +1,6 @@
 use Rattle.std.proofs.lemmas.Result.{err_from_is_err_and}
 use Rattle.std.proofs.Common.{[], refl, arith}
-use Rattle.gl_fields.specs.Reading.{field_at}
+use Rattle.gl_fields.specs.EntryReading.{field_at}
 use Rattle.gl_fields.specs.Units.{many_at}
 use Rattle.gl_fields.proofs.Many.{starts, goes_on, ends, is_done}
 use Rattle.gl_fields.proofs.FieldRead.{field_kept}

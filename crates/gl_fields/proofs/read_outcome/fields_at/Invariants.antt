@@ -1,6 +1,6 @@
 use Rattle.std.proofs.Common.{◌≡◌, ◌-◌, []}
 use Rattle.gl_fields.specs.Fields.{counted_size}
-use Rattle.gl_fields.specs.Reading.{field_at}
+use Rattle.gl_fields.specs.EntryReading.{field_at}
 use Rattle.gl_fields.specs.Units.{many_at}
 use Rattle.gl_fields.proofs.Taking.{IsBytes}
 use Rattle.gl_fields.proofs.FieldRead.{AreFields}

@@ -1,5 +1,5 @@
 use Rattle.std.proofs.lemmas.Result.{err_from_is_err_and}
-use Rattle.gl_fields.specs.Reading.{id_at}
+use Rattle.gl_fields.specs.EntryReading.{id_at}
 use Rattle.gl_fields.specs.Units.{many_at}
 use Rattle.std.proofs.Common.{[]}
 use Rattle.gl_fields.proofs.Many.{goes_on, ends, is_done}

@@ -1,6 +1,6 @@
 use Rattle.std.proofs.Common.{◌≡◌, ◌-◌, ◌<◌, ℕ, []}
 use Rattle.gl_fields.specs.Fields.{Rises}
-use Rattle.gl_fields.specs.Reading.{id_at}
+use Rattle.gl_fields.specs.EntryReading.{id_at}
 use Rattle.gl_fields.specs.Units.{many_at}
 use Rattle.gl_fields.proofs.read_outcome.ids_at.Given as goal
 

@@ -1,6 +1,6 @@
 use Rattle.std.proofs.Common.{◌≡◌, length}
 use Rattle.gl_base.specs.Bytes.{is_digit}
-use Rattle.gl_json.specs.Reading.{past}
+use Rattle.gl_json.specs.JsonReading.{past}
 use Rattle.gl_json.proofs.bytes.past_digits.Given as goal
 
 abbrev pub invariant-loop-rest : goal.invariant-loop-rest

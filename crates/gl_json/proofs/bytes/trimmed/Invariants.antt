@@ -1,6 +1,6 @@
 use Rattle.std.proofs.Common.{◌≡◌, length}
 use Rattle.gl_json.specs.Grammar.{is_blank}
-use Rattle.gl_json.specs.Reading.{past}
+use Rattle.gl_json.specs.JsonReading.{past}
 use Rattle.gl_json.proofs.bytes.trimmed.Given as goal
 
 abbrev pub invariant-loop-rest : goal.invariant-loop-rest

@@ -1,5 +1,5 @@
 use Rattle.std.proofs.Common.{◌≡◌, drop}
-use Rattle.gl_json.specs.Reading.{word_at}
+use Rattle.gl_json.specs.JsonReading.{word_at}
 use Rattle.gl_json.proofs.bytes.word_at.Given as goal
 
 abbrev pub invariant-loop-letter : goal.invariant-loop-letter

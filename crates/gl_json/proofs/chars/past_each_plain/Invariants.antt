@@ -1,6 +1,6 @@
 use Rattle.std.proofs.Common.{◌≡◌, length}
 use Rattle.gl_json.specs.Chars.{is_plain}
-use Rattle.gl_json.specs.Reading.{past}
+use Rattle.gl_json.specs.JsonReading.{past}
 use Rattle.gl_json.proofs.chars.past_each_plain.Given as goal
 
 abbrev pub invariant-loop-rest : goal.invariant-loop-rest

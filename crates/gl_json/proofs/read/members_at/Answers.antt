@@ -2,7 +2,7 @@ use Rattle.std.proofs.Common.{◌≡◌, ◌<◌, ℕ, true, false, List, [], �
 use Rattle.std.proofs.lemmas.Result.{err_from_is_err_and}
 use Rattle.gl_base.specs.Bytes.{next_is, behind_first}
 use Rattle.gl_json.specs.Grammar.{Pair, IsMember, IsValue}
-use Rattle.gl_json.specs.Reading.{Read, trimmed, elements_at, member_at, value_at}
+use Rattle.gl_json.specs.JsonReading.{Read, trimmed, elements_at, member_at, value_at}
 use Rattle.gl_json.specs.Views.{pair_view}
 use Rattle.gl_json.proofs.ElementRead.{Collecting, collect_starts, collect_none, collect_stop, collect_parted, collect_ends, collect_goes, left_shorter}
 use Rattle.gl_json.proofs.ValueRead.{member_sound, value_sound}

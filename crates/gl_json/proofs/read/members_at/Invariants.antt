@@ -1,5 +1,5 @@
 use Rattle.std.proofs.Common.{length, map}
-use Rattle.gl_json.specs.Reading.{elements_at, member_at, value_at}
+use Rattle.gl_json.specs.JsonReading.{elements_at, member_at, value_at}
 use Rattle.gl_json.specs.Views.{pair_view}
 use Rattle.gl_json.proofs.ElementRead.{Collecting}
 use Rattle.gl_json.proofs.read.members_at.Given as goal

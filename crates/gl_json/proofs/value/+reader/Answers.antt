@@ -2,7 +2,7 @@ use Rattle.std.proofs.Common.{◌≡◌, ◌<◌, ℕ, true, false, List, length
 use Rattle.std.proofs.lemmas.Result.{err_from_is_err_and}
 use Rattle.gl_base.specs.Bytes.{next_is, behind_first}
 use Rattle.gl_json.specs.Grammar.{IsItem, IsMember, IsValue}
-use Rattle.gl_json.specs.Reading.{Skip, trimmed, rest_of, elements_at, item_at, member_at, value_at}
+use Rattle.gl_json.specs.JsonReading.{Skip, trimmed, rest_of, elements_at, item_at, member_at, value_at}
 use Rattle.gl_json.specs.Views.{value_view, pair_view}
 use Rattle.gl_json.proofs.ElementRead.{Skipping, skip_starts, skip_none, skip_stop, skip_parted, skip_ends, skip_goes, left_shorter}
 use Rattle.gl_json.proofs.ValueRead.{item_sound, member_sound, value_sound, objects_none, objects_some, arrays_none, arrays_some}

@@ -1,5 +1,5 @@
 use Rattle.std.proofs.Common.{◌+◌, ◌*◌, length}
-use Rattle.gl_json.specs.Reading.{rest_of, elements_at, item_at, member_at, value_at}
+use Rattle.gl_json.specs.JsonReading.{rest_of, elements_at, item_at, member_at, value_at}
 use Rattle.gl_json.proofs.ElementRead.{Skipping}
 use Rattle.gl_json.proofs.value.+reader.Given as goal
 

@@ -4,7 +4,7 @@ use Rattle.gl_query.specs.declared.term.Node.{Node}
 use Rattle.gl_query.specs.Tree.{Tree, polish}
 use Rattle.gl_query.specs.Grammar.{IsQuery}
 use Rattle.gl_query.specs.Printing.{tree_text}
-use Rattle.gl_query.specs.Reading.{IsRead}
+use Rattle.gl_query.specs.QueryReading.{IsRead}
 use Rattle.gl_query.proofs.Sound.{is_query}
 use Rattle.gl_query.proofs.Writing.{prints_whole}
 use Rattle.gl_query.proofs.Relexing.{lex}

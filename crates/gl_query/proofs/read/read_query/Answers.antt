@@ -3,7 +3,7 @@ use Rattle.gl_query.specs.Tokens.{tokens_of}
 use Rattle.gl_query.specs.Tree.{polish}
 use Rattle.gl_query.specs.Refusals.{refusal_of}
 use Rattle.gl_query.specs.Refused.{TellsRefusal}
-use Rattle.gl_query.specs.Reading.{units, read_tree}
+use Rattle.gl_query.specs.QueryReading.{units, read_tree}
 use Rattle.gl_query.proofs.Sound.{is_query}
 use Rattle.gl_query.proofs.Endings.{one_tree, no_memory, query_taken}
 use Rattle.gl_query.proofs.read.read_query.Goals as goal

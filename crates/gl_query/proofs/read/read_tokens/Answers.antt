@@ -3,7 +3,7 @@ use Rattle.gl_query.specs.Building.{is_operator}
 use Rattle.std.proofs.lemmas.List.{take_rest}
 use Rattle.gl_query.specs.Tokens.{token_at}
 use Rattle.gl_query.specs.Refusals.{refused_from}
-use Rattle.gl_query.specs.Reading.{built_from, units, position_of}
+use Rattle.gl_query.specs.QueryReading.{built_from, units, position_of}
 use Rattle.gl_query.proofs.Steps.{space_passes, step_fits, step_built, step_refused, step_refuses, at_end, built_none}
 use Rattle.std.proofs.Common.{length, drop}
 use Rattle.gl_query.proofs.read.read_tokens.Goals as goal

@@ -5,7 +5,7 @@ use Rattle.std.proofs.lemmas.List.{take_all}
 use Rattle.std.proofs.lemmas.Grind.{common_steps}
 use Rattle.std.proofs.lemmas.Map.Text.{is_eq-slice_cmp}
 use Rattle.gl_syslogtext.specs.declared.parts.Element.{Element}
-use Rattle.gl_syslogtext.specs.Reading.{are_distinct, ids_of}
+use Rattle.gl_syslogtext.specs.MessageReading.{are_distinct, ids_of}
 use Rattle.gl_syslogtext.proofs.Distinct.{ids_more, seen_more, still_distinct, twice, known, unknown}
 use Rattle.gl_syslogtext.proofs.read.are_distinct.Goals as goal
 

@@ -4,7 +4,7 @@ use Rattle.std.specs.Str.{bytes_eq}
 use Rattle.std.specs.Ordering.{nat_cmp}
 use Rattle.std.specs.Cmp.Lexicographic.{slice_cmp}
 use Rattle.std.specs.BTreeSet.{contains_by}
-use Rattle.gl_syslogtext.specs.Reading.{are_distinct, ids_of}
+use Rattle.gl_syslogtext.specs.MessageReading.{are_distinct, ids_of}
 use Rattle.gl_syslogtext.proofs.read.are_distinct.Given as goal
 
 abbrev pub invariant-loop-element : goal.invariant-loop-element
