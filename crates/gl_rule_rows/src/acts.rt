@@ -2,14 +2,15 @@
 
 use crate::built::built;
 use crate::desk::Desk;
+use crate::lawful::lawful;
+use crate::shown::push_state;
 use crate::world::{streams, tables};
 use gl_base::Items;
-use gl_check::{Checked, check};
+use gl_check::Checked;
 use gl_eval::{Staged, act, holds};
 use gl_fields::{FieldMap, Value};
 use gl_functions::World;
-use gl_rows::{Row, fields_of, push_bytes, push_fields, push_truth};
-use gl_rulelang::read_rule;
+use gl_rows::{Row, fields_of, push_bytes, push_truth};
 use std::alloc::{AllocError, Global};
 use std::fmt::Write;
 
@@ -42,10 +43,7 @@ fn rule(
     text.push_str(before)?;
     text.push_str(middle)?;
     text.push_str(behind)?;
-    match read_rule(alloc, text.as_str()) {
-        Ok(rule) => Ok(check(alloc, rule).ok()),
-        Err(_) => Ok(None),
-    }
+    lawful(alloc, text.as_str())
 }
 
 fn message(alloc: Global, fields: &FieldMap) -> Result<Staged, AllocError> {
@@ -117,10 +115,7 @@ fn does(alloc: Global, text: &str, fields: &FieldMap, out: &mut String) -> Resul
         return out.push_str("no lawful rule");
     };
     let state = acted(alloc, &rule, fields)?;
-    push_fields(out, &state.fields)?;
-    for id in state.streams.as_slice() {
-        write!(out, " {id}")?;
-    }
+    push_state(out, &state)?;
     if state.dropped {
         out.push_str(" dropped")?;
     }

@@ -1,11 +1,14 @@
-//! Rows on rules at work: what checking answers, what conditions and expressions mean, and what actions make of a message (`gl_rows`
-//! says what rows are).
+//! Rows on rules at work: what checking answers, what conditions and expressions mean, what actions make of a message, and where its
+//! pipelines take it (`gl_rows` says what rows are).
 #![tactic(auto)]
 
 mod acts;
 mod built;
 mod check;
 mod desk;
+mod lawful;
+mod shown;
+mod stages;
 mod world;
 
 use desk::Desk;
