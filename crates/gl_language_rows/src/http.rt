@@ -2,7 +2,10 @@
 ghost use Rattle.gl_http.specs.ReplyBytes.{HasPhrase};
 
 use gl_base::Items;
-use gl_http::{Head, HeadAnswer, Reply, Route, memory_reply, read_head, write_reply};
+use gl_http::{
+    Exchange, Head, HeadAnswer, Refusal, Reply, Route, memory_reply, read_exchange, read_head,
+    write_reply,
+};
 use gl_rows::{Row, push_bytes};
 use std::alloc::{AllocError, Global};
 use std::fmt::Write;
@@ -11,6 +14,8 @@ pub fn answer(alloc: Global, row: &Row, out: &mut String) -> Result<(), AllocErr
     match row.text(0) {
         "head" => head(alloc, row.bytes(1), out),
         "fronts" => fronts(alloc, row.bytes(1), out),
+        "exchange" => exchange(alloc, row.bytes(1), out),
+        "exchanges" => exchanges(alloc, row.bytes(1), out),
         "reply" => reply(alloc, row, out),
         "memory-reply" => push_bytes(out, memory_reply()),
         _ => out.push_str("no such subject"),
@@ -21,13 +26,15 @@ pub fn answer(alloc: Global, row: &Row, out: &mut String) -> Result<(), AllocErr
 fn head(alloc: Global, bytes: &[u8], out: &mut String) -> Result<(), AllocError> {
     match read_head(alloc, bytes)? {
         HeadAnswer::More => out.push_str("more"),
-        HeadAnswer::Refused(refusal) => {
-            let status = refusal.status();
-            let name = refusal.name();
-            write!(out, "{status} {name}")
-        }
+        HeadAnswer::Refused(refusal) => push_refusal(out, refusal),
         HeadAnswer::Head(head) => push_head(out, &head),
     }
+}
+
+fn push_refusal(out: &mut String, refusal: Refusal) -> Result<(), AllocError> {
+    let status = refusal.status();
+    let name = refusal.name();
+    write!(out, "{status} {name}")
 }
 
 /// Puts the route, the token, the length of the body and that of the head behind a text.
@@ -67,6 +74,23 @@ fn fronts(alloc: Global, bytes: &[u8], out: &mut String) -> Result<(), AllocErro
         out.push('\n')?;
     }
     head(alloc, bytes, out)
+}
+
+/// What is answered to all that a client sent which has ended.
+fn exchange(alloc: Global, bytes: &[u8], out: &mut String) -> Result<(), AllocError> {
+    match read_exchange(alloc, bytes)? {
+        Exchange::Asked(head) => push_head(out, &head),
+        Exchange::Refused(refusal) => push_refusal(out, refusal),
+    }
+}
+
+/// What is answered to a client that ends behind each front of the bytes, and behind all of them.
+fn exchanges(alloc: Global, bytes: &[u8], out: &mut String) -> Result<(), AllocError> {
+    for len in 0..bytes.len() {
+        exchange(alloc, &bytes[..len], out)?;
+        out.push('\n')?;
+    }
+    exchange(alloc, bytes, out)
 }
 
 /// The bytes of a reply, behind what was sent before.

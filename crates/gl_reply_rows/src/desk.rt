@@ -1,0 +1,81 @@
+use crate::access;
+use gl_base::{Items, Text};
+use gl_rows::{Answering, Row};
+use gl_settings::{Parts, User, copies};
+use gl_streams::Stream;
+use std::alloc::{AllocError, Global};
+
+/// The configuration that the rows of a file put down for those behind them, at first that of a new store.
+#[derive(Drop)]
+pub struct Desk {
+    pub config: Parts,
+}
+
+impl Desk {
+    pub fn new(alloc: Global) -> Result<Desk, AllocError> {
+        Ok(Desk {
+            config: Parts::initial(alloc)?,
+        })
+    }
+
+    /// Puts a stream behind the others: `stream ID NAME`.
+    pub fn add_stream(&mut self, alloc: Global, row: &Row) -> Result<(), AllocError> {
+        let mut streams = copied_streams(alloc, self.config.streams())?;
+        streams.push(Stream {
+            id: row.number(1),
+            name: Text::from_str(alloc, row.text(2))?,
+            index_set: Text::from_str(alloc, "graylog")?,
+            any: false,
+            remove_from_default: false,
+            paused: false,
+            rules: Items::new(alloc),
+        })?;
+        self.config = self.config.copy()?.with_streams(alloc, streams)?;
+        Ok(())
+    }
+
+    /// Puts a user behind the others: `user NAME HASH KIND ID..`, where the kind is `administrator` or `reader`.
+    pub fn add_user(&mut self, alloc: Global, row: &Row) -> Result<(), AllocError> {
+        let mut users = copies(alloc, self.config.users())?;
+        users.push(User {
+            name: Text::from_str(alloc, row.text(1))?,
+            token_sha256: Text::from_str(alloc, row.text(2))?,
+            admin: row.text(3) == "administrator",
+            streams: ids_of(alloc, row)?,
+        })?;
+        self.config = self.config.copy()?.with_users(alloc, users)?;
+        Ok(())
+    }
+}
+
+fn copied_streams(alloc: Global, streams: &[Stream]) -> Result<Items<Stream>, AllocError> {
+    let mut copied = Items::new(alloc);
+    for stream in streams {
+        copied.push(stream.copy(alloc)?)?;
+    }
+    Ok(copied)
+}
+
+/// The numbers that the words of a row write, from the fifth on.
+fn ids_of(alloc: Global, row: &Row) -> Result<Items<u64>, AllocError> {
+    let mut ids = Items::new(alloc);
+    for index in 4..row.len() {
+        ids.push(row.number(index))?;
+    }
+    Ok(ids)
+}
+
+impl Answering for Desk {
+    fn answer(
+        &mut self,
+        alloc: Global,
+        file: &str,
+        row: &Row,
+        out: &mut String,
+    ) -> Result<(), AllocError> {
+        match file {
+            "access.rows" => access::answer(alloc, row, self, out),
+            _ => out.push_str("no such file"),
+        }
+    }
+}
