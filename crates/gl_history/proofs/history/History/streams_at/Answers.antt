@@ -1,0 +1,11 @@
+use Rattle.std.proofs.Common.{sym, subst, ◌∙◌, ◌<◌, length}
+use Rattle.gl_history.specs.History.{Kept, Remembers}
+use Rattle.gl_history.specs.Keeping.{kept_of}
+use Rattle.gl_history.proofs.Remembering.{streams_there}
+use Rattle.gl_history.proofs.history.History.streams_at.Goals as goal
+
+pub returns : goal.returns
+returns c = λ journal from r.
+    c.index.ensures
+    ∙ streams_there (kept_of c.self.inside) journal from c.args.version c.index.result.now (subst (λ (k : Kept). Remembers k journal from) (sym c.self.view_is) r)
+    (subst (λ (k : Kept). c.args.version < length k.counts) (sym c.self.view_is) c.requires)
