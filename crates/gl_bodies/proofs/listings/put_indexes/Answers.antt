@@ -1,0 +1,15 @@
+use Rattle.std.proofs.Common.{[], ◌∷◌}
+use Rattle.std.specs.Prelude.{codes}
+use Rattle.json.specs.Token.{key}
+use Rattle.json.specs.Tree.{json_tokens}
+use Rattle.serde_json.specs.Written.{outline}
+use Rattle.gl_bodies.specs.Json.{list_of}
+use Rattle.gl_bodies.specs.Listings.{index_data, indexes_at}
+use Rattle.gl_bodies.proofs.Members.{adds_both, has_more}
+use Rattle.gl_bodies.proofs.listings.put_indexes.Goals as goal
+
+pub returns : goal.returns
+returns c = λ members has.
+    has_more c.args.body.now c.write_indexes.new.body (indexes_at c.args.indexes.now)
+    (adds_both c.args.body.now c.key.new.self c.write_indexes.new.body (key (codes "indexes") ∷ []) (json_tokens (outline (list_of index_data c.args.indexes.now)))
+    (c.in_ok-key.ensures.room.0, c.in_ok-key.ensures.ok) c.in_ok-write_indexes.ensures) members has

@@ -1,0 +1,5 @@
+pub mod Json
+pub mod Replies
+pub mod Pages
+pub mod Listings
+pub mod Writing
