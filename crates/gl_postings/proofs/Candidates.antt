@@ -1,5 +1,5 @@
 -- What is found among the rows that have a term is what is found among all.
-use Rattle.std.proofs.Common.{◌≡◌, ◌⊎◌, inl, inr, ℕ, ◌+◌, ◌<◌, ◌==◌, nat_lt, Bool, true, false, ◌&&◌, ◌||◌, cond, List, [], ◌∷◌, ◌++◌, length, get_or, map, filter, take, Option, Some, None, refl, sym, ◌∙◌, ap, subst, arith}
+use Rattle.std.proofs.Common.{◌≡◌, ◌⊎◌, inl, inr, ℕ, ◌+◌, ◌<◌, ◌==◌, nat_lt, min, Bool, true, false, ◌&&◌, ◌||◌, cond, List, [], ◌∷◌, ◌++◌, length, get_or, map, filter, take, Option, Some, None, refl, sym, ◌∙◌, ap, subst, arith}
 use Rattle.std.specs.List.{All, Contains, reduce, fold}
 use Rattle.std.specs.Option.{option_map}
 use Rattle.std.proofs.lemmas.Bool.Decides.{nat_tests}
@@ -13,10 +13,13 @@ use Rattle.gl_query.specs.Matching.{holds}
 use Rattle.gl_query.specs.Required.{has_required, required}
 use Rattle.gl_query.specs.Tree.{Tree}
 use Rattle.gl_words.specs.Candidates.{candidates_of, holders, positions, rarer, rarest}
+use Rattle.gl_moments.specs.Minutes.{is_near, near}
 use Rattle.gl_pages.specs.declared.ask.Ask.{Ask}
 use Rattle.gl_pages.specs.declared.hits.Hit.{Hit}
 use Rattle.gl_pages.specs.Pages.{finds, is_between, one_chosen, time_of}
-use Rattle.gl_postings.specs.Bound.{most_steps, steps_for}
+use Rattle.gl_covers.specs.Covers.{Terms, cover, covered, has_one}
+use Rattle.gl_covers.specs.Suspects.{found_by, suspects_of}
+use Rattle.gl_postings.specs.Bound.{in_time, steps_by_cover, steps_by_words, steps_for}
 use Rattle.gl_postings.specs.Found.{hit_of, hits_of}
 use Rattle.gl_postings.proofs.Ordering.{Has, has_from, Pairs, pairs_from, Each}
 use Rattle.gl_postings.proofs.Paging.{hits_joined}
@@ -105,13 +108,92 @@ by_none r t rows are none = over (rarest rows t) refl (sym none ∙ are)
     over None is e = is
     over (Some term) is e = cc e
 
-pub steps_by_term : (t : Tree) (rows : List Row) (given : List ℕ) → ByTerm t rows given → most_steps t rows ≡ length given
-unfolding most_steps
-steps_by_term t rows given by = ap (steps_for rows) by.is ∙ sym (length-map (holders rows by.term) (λ (row : Row). row.position)) ∙ ap length (sym by.given_are)
+pub steps_by_term : (t : Tree) (rows : List Row) (given : List ℕ) → ByTerm t rows given → steps_by_words t rows ≡ length given
+unfolding steps_by_words
+steps_by_term t rows given by = ap (steps_for rows t) by.is ∙ sym (length-map (holders rows by.term) (λ (row : Row). row.position)) ∙ ap length (sym by.given_are)
 
-pub steps_by_none : (t : Tree) (rows : List Row) → rarest rows t ≡ None → most_steps t rows ≡ length rows
-unfolding most_steps
-steps_by_none t rows is = ap (steps_for rows) is
+pub steps_by_none : (t : Tree) (rows : List Row) → rarest rows t ≡ None → steps_by_words t rows ≡ steps_by_cover rows (cover rows t)
+unfolding steps_by_words
+steps_by_none t rows is = ap (steps_for rows t) is
+
+-- What a cover tells.
+
+-- what the crate of covers says of them
+abbrev pub LawOfCovers : Type 0
+LawOfCovers = (t : Tree) (rows : List Row) (fields : List Field) (terms : Terms) → cover rows t ≡ Some terms → holds t fields ≡ true → has_one terms fields ≡ true
+
+pub record ByCover (t : Tree) (rows : List Row) (given : List ℕ) : Type 0 where
+  pub terms : Terms
+  pub is : cover rows t ≡ Some terms
+  pub given_are : given ≡ positions (covered rows terms)
+
+pub by_cover : (r : Option (List ℕ)) (t : Tree) (rows : List Row) (given : List ℕ) → r ≡ suspects_of t rows → r ≡ Some given → ByCover t rows given
+by_cover r t rows given are some = over (cover rows t) refl (sym some ∙ are)
+  where
+    over : (o : Option Terms) → cover rows t ≡ o → Some given ≡ found_by rows o → ByCover t rows given
+    over None is e = cc e
+    over (Some terms) is e = record { terms = terms; is = is; given_are = cc e }
+
+pub by_no_cover : (r : Option (List ℕ)) (t : Tree) (rows : List Row) → r ≡ suspects_of t rows → r ≡ None → cover rows t ≡ None
+by_no_cover r t rows are none = over (cover rows t) refl (sym none ∙ are)
+  where
+    over : (o : Option Terms) → cover rows t ≡ o → None ≡ found_by rows o → cover rows t ≡ None
+    over None is e = is
+    over (Some terms) is e = cc e
+
+pub found_by_cover : LawOfCovers → (ask : Ask) (t : Tree) (rows : List Row) (terms : Terms) → cover rows t ≡ Some terms → hits_of ask t (covered rows terms) ≡ hits_of ask t rows
+unfolding hits_of
+found_by_cover law ask t rows terms is =
+    ap (map hit_of)
+    (filter_within (λ (row : Row). finds ask t row.streams row.fields) (λ (row : Row). has_one terms row.fields)
+    (λ row h. law t rows row.fields terms is (third (one_chosen ask.chosen row.streams) (is_between ask.from ask.to (time_of row.fields)) (holds t row.fields) h)) rows)
+
+pub covered_there : (rows : List Row) (terms : Terms) → All (Contains rows) (covered rows terms)
+covered_there rows terms = All-filter (λ (row : Row). has_one terms row.fields) (Contains rows) rows (All-contains_itself rows)
+
+pub steps_by_terms : (t : Tree) (rows : List Row) (given : List ℕ) → ByCover t rows given → steps_by_cover rows (cover rows t) ≡ length given
+steps_by_terms t rows given by = ap (steps_by_cover rows) by.is ∙ sym (length-map (covered rows by.terms) (λ (row : Row). row.position)) ∙ ap length (sym by.given_are)
+
+pub steps_by_all : (t : Tree) (rows : List Row) → cover rows t ≡ None → steps_by_cover rows (cover rows t) ≡ length rows
+steps_by_all t rows is = ap (steps_by_cover rows) is
+
+-- What the minutes tell.
+
+-- what the crate of moments says of minutes
+abbrev pub LawOfMinutes : Type 0
+LawOfMinutes = (from to : ℕ) (row : Row) → is_between from to (time_of row.fields) ≡ true → is_near from to row ≡ true
+
+second : (a b c : Bool) → (a && b && c) ≡ true → b ≡ true
+second true true c h = refl
+second true false c h = cc h
+second false b c h = cc h
+
+pub found_near : LawOfMinutes → (ask : Ask) (t : Tree) (rows : List Row) → hits_of ask t (near ask.from ask.to rows) ≡ hits_of ask t rows
+unfolding hits_of
+found_near law ask t rows =
+    ap (map hit_of)
+    (filter_within (λ (row : Row). finds ask t row.streams row.fields) (is_near ask.from ask.to)
+    (λ row h. law ask.from ask.to row (second (one_chosen ask.chosen row.streams) (is_between ask.from ask.to (time_of row.fields)) (holds t row.fields) h)) rows)
+
+pub near_there : (rows : List Row) (from to : ℕ) → All (Contains rows) (near from to rows)
+near_there rows from to = All-filter (is_near from to) (Contains rows) rows (All-contains_itself rows)
+
+pub length_of_near : (given : List ℕ) (rows : List Row) → given ≡ positions rows → length given ≡ length rows
+length_of_near given rows are = ap length are ∙ length-map rows (λ (row : Row). row.position)
+
+-- the minutes are taken where they have fewer rows
+module _ (ask : Ask) (rows : List Row) (n : ℕ) (fewer : Bool) (is : fewer ≡ nat_lt (length (near ask.from ask.to rows)) n) where
+  pub time_is_less : fewer ≡ true → in_time ask rows n ≡ length (near ask.from ask.to rows)
+  time_is_less h = taken (length (near ask.from ask.to rows)) (sym is ∙ h)
+    where
+      taken : (m : ℕ) → nat_lt m n ≡ true → min n m ≡ m
+      taken m lt = grind (arith, nat_tests)
+
+  pub time_is_no_less : fewer ≡ false → in_time ask rows n ≡ n
+  time_is_no_less h = left (length (near ask.from ask.to rows)) (sym is ∙ h)
+    where
+      left : (m : ℕ) → nat_lt m n ≡ false → min n m ≡ n
+      left m not_less = grind (arith, nat_tests)
 
 -- A row by its position.
 

@@ -17,8 +17,8 @@ use Rattle.gl_indexset.specs.Kept as kept_sets
 use Rattle.gl_indexset.specs.Leaving.{IsGoneOn, IsStepOfLeaving, is_filed, left_below, staying, without}
 use Rattle.gl_indexset.specs.Retention.{is_in, is_live_in, live_among, live_rows, with_rule}
 use Rattle.gl_indexset.specs.Rising.{AreBelow, AreRising}
-use Rattle.gl_words.specs.declared.postings.Postings.{Postings}
-use Rattle.gl_words.specs.Words as kept_words
+use Rattle.gl_postings.specs.declared.postings.Postings.{Postings}
+use Rattle.gl_postings.specs.Postings as kept_words
 use Rattle.gl_postings.specs.Indexed.{IsReady, MayCome, SetsStand, filed, stored}
 use Rattle.gl_postings.proofs.Leaving.{Before, each_joined, pairs_joined, rising_front, without_front, without_middle}
 use Rattle.gl_postings.proofs.Ordering.{Each, Pairs, all_pairs, each_at, each_from, pairs_from}

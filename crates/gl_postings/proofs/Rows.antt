@@ -6,9 +6,10 @@ use Rattle.gl_indexset.specs.declared.row.Row.{Row}
 use Rattle.gl_query.specs.declared.term.Term.TheVariants as term
 use Rattle.gl_query.specs.Texts.{runs_of, text_tokens}
 use Rattle.gl_query.specs.Tree.{Tree, leaf, both, also, none, polish}
+use Rattle.gl_moments.specs.Minutes.{minute_of}
 use Rattle.gl_pages.specs.declared.ask.Ask.{Ask}
 use Rattle.gl_words.specs.Candidates.{candidates_of}
-use Rattle.gl_postings.specs.Bound.{most_steps}
+use Rattle.gl_postings.specs.Bound.{most_steps, steps_by_words}
 use Rattle.gl_postings.specs.Found.{page_of}
 
 abbrev row_of : (position time stream : ℕ) → List ℕ → Row
@@ -44,6 +45,6 @@ none_required : candidates_of (leaf (term.Text None (codes "needle"))) rows ≡ 
 unfolding candidates_of runs_of text_tokens
 none_required = refl
 
-few_steps : most_steps hay_and_needle rows ≡ 2
-unfolding most_steps runs_of text_tokens
+few_steps : most_steps (ask hay_and_needle 0 10) hay_and_needle rows ≡ 2
+unfolding steps_by_words runs_of text_tokens minute_of
 few_steps = refl

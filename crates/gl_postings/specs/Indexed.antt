@@ -7,8 +7,8 @@ use Rattle.gl_indexset.specs.Kept.{Kept, AreKnown, rules_of, spare_of}
 use Rattle.gl_indexset.specs.Kept as kept_sets
 use Rattle.gl_indexset.specs.Retention.{live_rows}
 use Rattle.gl_indexset.specs.Rising.{AreRising}
-use Rattle.gl_words.specs.declared.postings.Postings.{Postings}
-use Rattle.gl_words.specs.Words as kept_words
+use Rattle.gl_postings.specs.declared.postings.Postings.{Postings}
+use Rattle.gl_postings.specs.Postings as kept_words
 use Rattle.gl_postings.specs.declared.indexed.Indexed.{Indexed}
 
 -- the rules of the sets

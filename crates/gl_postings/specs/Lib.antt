@@ -1,3 +1,4 @@
 pub mod Found
 pub mod Bound
+pub mod Postings
 pub mod Indexed

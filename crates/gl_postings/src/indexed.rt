@@ -11,13 +11,13 @@ ghost use Rattle.gl_postings.specs.Bound.{most_steps};
 ghost use Rattle.gl_postings.specs.Found.{page_of};
 ghost use Rattle.gl_postings.specs.Indexed.{IndexStands, IsPrepared, MayFollow, next_in, rules_in, stored};
 
+use crate::postings::Postings;
 use crate::search::search_rows;
 use crate::settling::{add_words, forget_words, settle_all};
 use gl_base::{Items, Text};
 use gl_fields::SetRule;
 use gl_indexset::{IndexSets, Row, Steps};
 use gl_pages::{Ask, Page};
-use gl_words::Postings;
 use std::alloc::{AllocError, Global};
 use std::sync::ledger::Ledger;
 
@@ -106,7 +106,7 @@ impl Indexed {
         ensures page { (rules : List SetRule) (all : List Row) (t : Tree) → IndexStands self.now rules all → ask.now.query ≡ polish t
             → IfOk result (λ page. page ≡ page_of ask.now t (live_rows rules all)) }
         ensures bound { (rules : List SetRule) (all : List Row) (t : Tree) → IndexStands self.now rules all → ask.now.query ≡ polish t
-            → steps.new ≤ steps.old + most_steps t (live_rows rules all) }
+            → steps.new ≤ steps.old + most_steps ask.now t (live_rows rules all) }
     {
         search_rows(self.alloc, &self.sets, &self.words, ask, steps)
     }

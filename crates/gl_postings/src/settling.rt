@@ -7,12 +7,12 @@ ghost use Rattle.gl_indexset.specs.Kept.{StandsFor as SetsStandFor, rules_of};
 ghost use Rattle.gl_indexset.specs.Leaving.{staying};
 ghost use Rattle.gl_indexset.specs.Retention.{live_rows};
 ghost use Rattle.gl_indexset.specs.Rising.{AreRising};
-ghost use Rattle.gl_words.specs.Words.{StandsFor};
 ghost use Rattle.gl_postings.specs.Indexed.{IsReady, filed, stored};
+ghost use Rattle.gl_postings.specs.Postings.{StandsFor};
 
+use crate::postings::Postings;
 use gl_base::Items;
 use gl_indexset::{IndexSets, Row, Steps};
-use gl_words::Postings;
 use std::alloc::AllocError;
 use std::marker::Brand;
 use std::sync::ledger::{Blank, Ledger};

@@ -11,4 +11,5 @@ mod row;
 mod table;
 mod word;
 
+pub use positions::Positions;
 pub use postings::Postings;

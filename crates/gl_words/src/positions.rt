@@ -8,7 +8,7 @@ use std::marker::Model;
 
 /// Positions in rising order. Taking the first of them out is cheap.
 #[derive(Drop)]
-pub(crate) struct Positions {
+pub struct Positions {
     items: Vec<u64>,
     /// How many of the first are gone.
     gone: usize,
@@ -26,7 +26,8 @@ impl Model for Positions {
 }
 
 impl Positions {
-    pub(crate) fn of(alloc: Global, position: u64) -> Result<Positions, AllocError>
+    /// One position.
+    pub fn of(alloc: Global, position: u64) -> Result<Positions, AllocError>
         ensures { IfOk result (λ one. one ≡ position ∷ []) }
     {
         let mut items = Vec::with_capacity(alloc, 1)?;
@@ -34,14 +35,15 @@ impl Positions {
         Ok(Positions { items, gone: 0 })
     }
 
-    pub(crate) fn as_slice(&self) -> &[u64]
+    /// They as they stand, the lowest first.
+    pub fn as_slice(&self) -> &[u64]
         ensures { result.now ≡ self.now }
     {
         &self.items[self.gone..]
     }
 
     /// Puts a position behind the others, where it is above them.
-    pub(crate) fn put(&mut self, position: u64) -> Result<(), AllocError>
+    pub fn put(&mut self, position: u64) -> Result<(), AllocError>
         ensures ok { OnOk result (self.new ≡ with_position position self.old) }
         ensures err { OnErr result (self.new ≡ self.old) }
     {
@@ -49,7 +51,7 @@ impl Positions {
     }
 
     /// Takes a position out, if it is there. It takes no memory.
-    pub(crate) fn take_out(&mut self, position: u64)
+    pub fn take_out(&mut self, position: u64)
         ensures { self.new ≡ without_position position self.old }
     {
         let gone = take_out(&mut self.items, self.gone, position);

@@ -1,13 +1,13 @@
 // The index of words.
-ghost use Rattle.std.specs.Prelude.{◌≡◌, [], ◌∷◌, ◌++◌, ℕ, List, Contains, OnOk, OnErr, MatchOption, map, option_map, Option, Some};
+ghost use Rattle.std.specs.Prelude.{◌≡◌, [], ◌∷◌, ◌++◌, ℕ, false, List, Contains, OnOk, OnErr, MatchOption, map, option_map, Option, Some};
 ghost use Rattle.std.specs.Char.{to_ascii_lowercase};
 ghost use Rattle.std.specs.List.{reduce};
 ghost use Rattle.gl_indexset.specs.declared.row.Row.{Row};
 ghost use Rattle.gl_indexset.specs.Leaving.{without};
 ghost use Rattle.gl_indexset.specs.Rising.{AreBelow};
-ghost use Rattle.gl_query.specs.Required.{terms_of};
+ghost use Rattle.gl_query.specs.Required.{is_number, terms_of};
 ghost use Rattle.gl_query.specs.Tree.{Tree, polish};
-ghost use Rattle.gl_words.specs.Candidates.{candidates_of};
+ghost use Rattle.gl_words.specs.Candidates.{candidates_of, holders, positions};
 ghost use Rattle.gl_words.specs.Inside.{kept_in};
 ghost use Rattle.gl_words.specs.Texts.{shorter};
 ghost use Rattle.gl_words.specs.Words.{StandsFor};
@@ -63,6 +63,15 @@ impl Postings {
         take_row(&mut self.words, row);
     }
 
+    /// The positions of the rows that have a token in a field, in rising order. ASCII letters count in lower case, and the
+    /// token isn't digits alone. It takes no memory.
+    pub fn positions(&self, field: &[u8], token: &[u8]) -> &[u64]
+        ensures { (rows : List Row) → StandsFor self.now rows → is_number (map to_ascii_lowercase token.now) ≡ false
+            → result.now ≡ positions (holders rows (field.now, map to_ascii_lowercase token.now)) }
+    {
+        kept(&self.words, field, token)
+    }
+
     /// The positions of the rows that have the query's rarest required term, of equally rare ones the first in the
     /// query; `None` where it requires none. It takes no memory.
     pub fn candidates(&self, query: &Query) -> Option<&[u64]>
@@ -88,14 +97,21 @@ fn shorter_than<'w>(least: Option<&'w [u64]>, found: &'w [u64]) -> &'w [u64]
     }
 }
 
+// The positions of a token in a field.
+fn kept<'w>(words: &'w HashMap<u64, Bucket>, field: &[u8], token: &[u8]) -> &'w [u64]
+    ensures { result.now ≡ kept_in words.now field.now (map to_ascii_lowercase token.now) }
+{
+    match positions_in(words, field, token) {
+        Some(found) => found,
+        None => &[],
+    }
+}
+
 // The positions of a term.
 fn positions_of<'w>(words: &'w HashMap<u64, Bucket>, term: &RequiredTerm) -> &'w [u64]
     ensures { result.now ≡ kept_in words.now term.now.field (map to_ascii_lowercase term.now.token) }
 {
-    match positions_in(words, term.field.as_slice(), term.token.as_slice()) {
-        Some(found) => found,
-        None => &[],
-    }
+    kept(words, term.field.as_slice(), term.token.as_slice())
 }
 
 // The fewest positions of one of these terms, the first of those.

@@ -3,7 +3,7 @@ use Rattle.std.proofs.Common.{◌+◌, ◌≤◌, List, ◌++◌, length, take, 
 use Rattle.std.proofs.lemmas.List.{append-nil, take_all}
 use Rattle.gl_indexset.specs.declared.row.Row.{Row}
 use Rattle.gl_indexset.specs.Rising.{AreRising}
-use Rattle.gl_words.specs.Words.{StandsFor}
+use Rattle.gl_postings.specs.Postings.{StandsFor}
 use Rattle.gl_postings.specs.Indexed.{filed}
 use Rattle.gl_postings.proofs.Coming.{rising_so_far, rows_next}
 use Rattle.gl_postings.proofs.settling.add_words.Goals as goal

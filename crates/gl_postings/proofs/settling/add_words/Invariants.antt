@@ -2,7 +2,7 @@
 use Rattle.std.proofs.Common.{◌++◌, List, take}
 use Rattle.gl_indexset.specs.declared.row.Row.{Row}
 use Rattle.gl_indexset.specs.Rising.{AreRising}
-use Rattle.gl_words.specs.Words.{StandsFor}
+use Rattle.gl_postings.specs.Postings.{StandsFor}
 use Rattle.gl_postings.specs.Indexed.{filed}
 use Rattle.gl_postings.proofs.settling.add_words.Given as goal
 

@@ -3,7 +3,7 @@ use Rattle.std.proofs.Common.{◌<◌, ◌≤◌, ◌∷◌, ◌++◌, List, len
 use Rattle.gl_indexset.specs.declared.row.Row.{Row}
 use Rattle.gl_indexset.specs.Kept.{rules_of}
 use Rattle.gl_indexset.specs.Retention.{live_rows}
-use Rattle.gl_words.specs.Words.{StandsFor}
+use Rattle.gl_postings.specs.Postings.{StandsFor}
 use Rattle.gl_postings.proofs.Coming.{forgotten}
 use Rattle.gl_postings.proofs.settling.forget_leaving.Goals as goal
 

@@ -4,7 +4,7 @@ use Rattle.gl_indexset.specs.declared.row.Row.{Row}
 use Rattle.gl_indexset.specs.Kept.{StandsFor as SetsStandFor, rules_of}
 use Rattle.gl_indexset.specs.Leaving.{left_below}
 use Rattle.gl_indexset.specs.Retention.{live_rows}
-use Rattle.gl_words.specs.Words.{StandsFor}
+use Rattle.gl_postings.specs.Postings.{StandsFor}
 use Rattle.gl_postings.proofs.settling.forget_leaving.Given as goal
 
 abbrev pub invariant-loop-n : goal.invariant-loop-n

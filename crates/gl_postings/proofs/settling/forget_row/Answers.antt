@@ -1,7 +1,7 @@
 -- A row that goes into some set, and one that goes into none.
 use Rattle.std.proofs.Common.{List, ◌++◌, subst}
 use Rattle.gl_indexset.specs.declared.row.Row.{Row}
-use Rattle.gl_words.specs.Words.{StandsFor}
+use Rattle.gl_postings.specs.Postings.{StandsFor}
 use Rattle.gl_postings.proofs.Coming.{filed_first, filed_past, row_forgotten}
 use Rattle.gl_postings.proofs.settling.forget_row.Goals as goal
 

@@ -2,7 +2,7 @@
 use Rattle.std.proofs.Common.{◌≡◌, ◌+◌, ◌≤◌, List, [], ◌++◌, length, drop, sym, ◌∙◌, ap, subst, arith}
 use Rattle.std.proofs.lemmas.List.{append-nil, drop_all}
 use Rattle.gl_indexset.specs.declared.row.Row.{Row}
-use Rattle.gl_words.specs.Words.{StandsFor}
+use Rattle.gl_postings.specs.Postings.{StandsFor}
 use Rattle.gl_postings.specs.Indexed.{filed}
 use Rattle.gl_postings.proofs.Coming.{drop_next}
 use Rattle.gl_postings.proofs.settling.forget_words.Goals as goal

@@ -1,7 +1,7 @@
 -- The words of the rows that come are still in.
 use Rattle.std.proofs.Common.{◌++◌, List, drop}
 use Rattle.gl_indexset.specs.declared.row.Row.{Row}
-use Rattle.gl_words.specs.Words.{StandsFor}
+use Rattle.gl_postings.specs.Postings.{StandsFor}
 use Rattle.gl_postings.specs.Indexed.{filed}
 use Rattle.gl_postings.proofs.settling.forget_words.Given as goal
 

@@ -1,7 +1,7 @@
 -- The set that comes has no rows, so the same rows are live.
 use Rattle.std.proofs.Common.{sym, ◌∙◌, ap, subst}
 use Rattle.gl_indexset.specs.Retention.{with_rule}
-use Rattle.gl_words.specs.Words.{StandsFor}
+use Rattle.gl_postings.specs.Postings.{StandsFor}
 use Rattle.gl_postings.proofs.Coming.{keep_one_more, still_live}
 use Rattle.gl_postings.proofs.indexed.Indexed.add_set.Goals as goal
 

@@ -2,7 +2,7 @@
 use Rattle.std.proofs.Common.{◌≡◌, ◌+◌, ◌≤◌, List, sym, subst}
 use Rattle.std.specs.Result.{IfOk}
 use Rattle.gl_indexset.specs.declared.row.Row.{Row}
-use Rattle.gl_words.specs.Words.{StandsFor}
+use Rattle.gl_postings.specs.Postings.{StandsFor}
 use Rattle.gl_postings.specs.Bound.{most_steps}
 use Rattle.gl_postings.specs.Found.{page_of}
 use Rattle.gl_postings.proofs.Coming.{live_are}
@@ -19,4 +19,4 @@ returns-clause-page g c = λ rules all t stands q.
 
 pub returns-clause-bound : goal.returns-clause-bound
 returns-clause-bound g c = λ rules all t stands q.
-    subst (λ (rows : List Row). c.search_rows.new.steps ≤ c.args.steps.now + most_steps t rows) (live_are c.args.self.now.sets rules all stands.sets) (c.search_rows.ensures.bound t q)
+    subst (λ (rows : List Row). c.search_rows.new.steps ≤ c.args.steps.now + most_steps c.args.ask.now t rows) (live_are c.args.self.now.sets rules all stands.sets) (c.search_rows.ensures.bound t q)

@@ -2,7 +2,7 @@ use Rattle.std.proofs.Common.{List, subst}
 use Rattle.std.proofs.lemmas.List.{append-nil}
 use Rattle.gl_indexset.specs.declared.row.Row.{Row}
 use Rattle.gl_indexset.specs.Retention.{live_rows}
-use Rattle.gl_words.specs.Words.{StandsFor}
+use Rattle.gl_postings.specs.Postings.{StandsFor}
 use Rattle.gl_postings.specs.Indexed.{stored}
 use Rattle.gl_postings.proofs.indexed.Indexed.settle.Goals as goal
 

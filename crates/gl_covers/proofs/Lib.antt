@@ -1,0 +1,5 @@
+pub mod Saying
+pub mod Covering
+pub mod Union
+pub mod Texting
+pub mod Gathering

@@ -1,0 +1,6 @@
+mod Counting
+mod Meeting
+mod Ranging
+mod Sorting
+mod Standing
+mod Walking
