@@ -58,6 +58,20 @@ impl History {
         })
     }
 
+    /// The first version whose configuration is remembered.
+    pub fn first_version(&self) -> u64
+        ensures { result ≡ self.now.from }
+    {
+        self.from
+    }
+
+    /// The present version, which is the last that is remembered.
+    pub fn last_version(&self) -> u64
+        ensures { result + 1 ≡ self.now.from + length self.now.configs }
+    {
+        self.commands.len() as u64
+    }
+
     /// The configuration of a version that is remembered.
     pub fn config(&self, version: u64) -> &Config
         requires from { self.now.from ≤ version }
@@ -81,9 +95,9 @@ impl History {
         commands_before(self.commands.as_slice(), position)
     }
 
-    /// How many streams a version has: their ids are 1 to that number.
+    /// How many streams a version has, also one before those that are remembered: their ids are 1 to that number.
     pub fn streams_at(&self, version: u64) -> u64
-        requires { version < length self.now.counts }
+        requires { version < self.now.from + length self.now.configs }
         ensures { (journal : List Entry) (from : ℕ) → Remembers self.now journal from → result ≡ streams_at journal version }
     {
         self.counts[version as usize]
