@@ -1,0 +1,5 @@
+pub mod Parameters
+pub mod Search
+pub mod Refusals
+pub mod Callers
+pub mod Commands
