@@ -1,20 +1,52 @@
-use crate::access;
+use crate::{access, replies};
 use gl_base::{Items, Text};
+use gl_check::Checked;
+use gl_fields::FieldMap;
 use gl_rows::{Answering, Row};
+use gl_rulelang::Pipeline;
 use gl_settings::{Parts, User, copies};
 use gl_streams::Stream;
 use std::alloc::{AllocError, Global};
 
-/// The configuration that the rows of a file put down for those behind them, at first that of a new store.
+/// A message that is live.
+#[derive(Drop)]
+pub struct Kept {
+    pub streams: Items<u64>,
+    pub fields: FieldMap,
+}
+
+/// What a server counts.
+#[derive(Drop)]
+pub struct Counts {
+    pub committed: u64,
+    pub journal: u64,
+    pub version: u64,
+    pub indexes: Vec<(Text, u64)>,
+}
+
+/// What the rows of a file put down for those behind them; the configuration is at first that of a new store.
 #[derive(Drop)]
 pub struct Desk {
     pub config: Parts,
+    pub rules: Vec<Checked>,
+    pub pipelines: Vec<Pipeline>,
+    pub live: Vec<Kept>,
+    pub counts: Counts,
 }
 
 impl Desk {
     pub fn new(alloc: Global) -> Result<Desk, AllocError> {
         Ok(Desk {
             config: Parts::initial(alloc)?,
+            rules: Vec::new(alloc),
+            pipelines: Vec::new(alloc),
+            live: Vec::new(alloc),
+            counts: Counts {
+                committed: 0,
+                journal: 0,
+                version: 0,
+                indexes: Vec::new(alloc),
+            },
         })
     }
 
@@ -75,6 +107,7 @@ impl Answering for Desk {
     ) -> Result<(), AllocError> {
         match file {
             "access.rows" => access::answer(alloc, row, self, out),
+            "replies.rows" => replies::answer(alloc, row, self, out),
             _ => out.push_str("no such file"),
         }
     }

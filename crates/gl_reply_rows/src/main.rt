@@ -1,8 +1,13 @@
-//! Rows on requests: whose a token is, and what it may see and do (`gl_rows` says what rows are).
+//! Rows on requests: whose a token is and what it may see and do, and what requests are replied (`gl_rows` says what rows are).
 #![tactic(auto)]
 
 mod access;
+mod asked;
 mod desk;
+mod refusals;
+mod replies;
+mod serving;
+mod shown;
 
 use desk::Desk;
 use gl_rows::told;
