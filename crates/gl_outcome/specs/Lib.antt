@@ -1,0 +1,4 @@
+pub mod Outcomes
+pub mod Compiling
+pub mod Bounded
+pub mod Staging

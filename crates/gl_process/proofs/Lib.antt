@@ -1,0 +1,2 @@
+mod Compilable
+mod Ranges
