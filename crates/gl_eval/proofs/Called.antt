@@ -40,11 +40,6 @@ values_are_for s g f arguments given values ps same asks are is =
     ∙ ap (λ (vs : List Value). values_for (row_of f).parameters (names_in (row (args_view arguments))) vs) are
     ∙ ap (λ (h : Arguments). values_for (row_of f).parameters (names_in h) (meanings s h)) same
 
-pub passed_are_for : (s : Scope) (g : Arguments) (f : Function) (first second : Given) (given lent values passed : List Value) (ps : List ParameterRow) → row (args_view first) ≡ g → row (args_view second) ≡ g
-    → ps ≡ (row_of f).parameters → given ≡ meanings s (row (args_view first)) → lent ≡ given → values ≡ values_for ps (names_view second) lent → passed ≡ values → AreFor s g f passed
-passed_are_for s g f first second given lent values passed ps one two asks are same is through =
-    through ∙ values_are_for s g f second lent values ps two asks (same ∙ are ∙ ap (λ (h : Arguments). meanings s h) (one ∙ sym two)) is
-
 pub called_means : (s : Scope) (c : List ℕ × Arguments) (f : Function) (values : List Value) (v : Value) → function_named c.0 ≡ Some f → AreFor s c.1 f values → v ≡ bounded (result_of s.sight f values)
     → v ≡ meaning s (call_tree c)
 unfolding meaning meanings

@@ -8,5 +8,6 @@ pub mod Heights
 pub mod Counts
 pub mod Asked
 pub mod Called
+pub mod Fitting
 pub mod Rules
 pub mod Typed

@@ -3,4 +3,5 @@ pub mod Actions
 pub mod Changes
 pub mod Patterns
 pub mod Scopes
+pub mod Fitting
 pub mod Typing

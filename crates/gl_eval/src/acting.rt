@@ -12,14 +12,14 @@ ghost use Rattle.gl_eval.specs.Changes.{changed};
 ghost use Rattle.gl_eval.specs.Patterns.{StandAt, HavePatterns, StepHasPatterns, StepsHavePatterns};
 ghost use Rattle.gl_eval.specs.Scopes.{scope_in, named_value, course_of};
 
-use crate::arguments::values_for;
+use crate::arguments::fit;
 use crate::asking::asked;
 use crate::change::{Change, apply};
 use crate::passing::past;
 use crate::patterns::{Row, RulePatterns};
 use crate::scope::{Scope, Variable};
 use crate::staged::Staged;
-use crate::walking::{value_of, values_of};
+use crate::walking::{meaning_of, push_values};
 use gl_check::{Checked, Function};
 use gl_functions::World;
 use gl_rulelang::{Action, Call};
@@ -38,12 +38,13 @@ fn asked_by(
     ensures next { OnOk result (laid.new.next ≡ laid.old.next + length (patterns_in (call_of call.now).1)) }
     ensures same { laid.new.patterns.items ≡ laid.old.patterns.items }
 {
-    let given = values_of(alloc, scope, &call.arguments, laid)?;
+    let mut stack = Vec::new(alloc);
+    push_values(alloc, scope, &call.arguments, laid, &mut stack)?;
     let Some(function) = Function::named(call.name.as_str()) else {
         return Ok(Change::Nothing);
     };
-    let values = values_for(alloc, function.parameters(), &call.arguments, &given)?;
-    asked(alloc, scope.world, function, &values)
+    fit(alloc, function.parameters(), &call.arguments, 0, &mut stack)?;
+    asked(alloc, scope.world, function, stack.as_slice())
 }
 
 /// Does one action: gives a name to a value, or changes the message.
@@ -69,7 +70,7 @@ fn step<'r>(
     };
     match action {
         Action::Let(name, e) => {
-            let value = value_of(alloc, &scope, e, laid)?.into_owned(alloc)?;
+            let value = meaning_of(alloc, &scope, e, laid)?.into_owned(alloc)?;
             let name = name.as_str();
             variables.insert(0, Variable { name, value })?;
             Ok(())

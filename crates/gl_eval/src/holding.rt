@@ -5,7 +5,7 @@ ghost use Rattle.gl_eval.specs.Meaning.{condition_holds};
 
 use crate::patterns::RulePatterns;
 use crate::scope::Scope;
-use crate::walking::value_of;
+use crate::walking::meaning_of;
 use gl_check::Checked;
 use gl_fields::FieldMap;
 use gl_functions::World;
@@ -33,6 +33,6 @@ pub fn holds(
         variables: &[],
     };
     patterns.row.next = 0;
-    let value = value_of(alloc, &scope, &rule.rule().condition, &mut patterns.row)?;
+    let value = meaning_of(alloc, &scope, &rule.rule().condition, &mut patterns.row)?;
     Ok(value.is_true())
 }

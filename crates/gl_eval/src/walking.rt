@@ -1,5 +1,5 @@
 // The meaning of expressions, by their trees.
-ghost use Rattle.std.specs.Prelude.{◌≡◌, ◌+◌, IfOk, OnOk, length, map};
+ghost use Rattle.std.specs.Prelude.{◌≡◌, ◌+◌, ◌++◌, IfOk, OnOk, length, map};
 ghost use Rattle.gl_rulelang.specs.Tree.{tree_of, call_of, call_tree, args_view, row};
 ghost use Rattle.gl_check.specs.Checking.{patterns_of, patterns_in};
 ghost use Rattle.gl_eval.specs.Meaning.{meaning, meanings};
@@ -8,7 +8,7 @@ ghost use Rattle.gl_functions.specs.Calls.{result_of};
 ghost use Rattle.gl_eval.specs.Patterns.{StandAt, HasPatterns, HavePatterns, TakesNext, taken_by};
 ghost use Rattle.gl_eval.specs.Scopes.{scope_in};
 
-use crate::arguments::values_for;
+use crate::arguments::fit;
 use crate::patterns::Row;
 use crate::scope::{Scope, variable_in};
 use gl_base::Text;
@@ -24,8 +24,44 @@ fn whole_of<'a>(number: &i64) -> Value<'a>
 }
 
 /// What an expression means, with its patterns from the next one of the row on; the next one is then the one behind them.
+///
+/// Values that wait for others lie on the stack, which is as before.
 #[cycle(walk)]
-pub fn value_of<'a>(
+fn value_of<'a>(
+    alloc: Global,
+    scope: &Scope<'a>,
+    e: &'a Expr,
+    laid: &mut Row,
+    stack: &mut Vec<Value<'a>>,
+) -> Result<Value<'a>, AllocError>
+    requires lawful { HasPatterns (tree_of e.now) }
+    requires patterns { StandAt laid.old.next (patterns_of (tree_of e.now)) laid.old.patterns.items }
+    ensures value { IfOk result (λ v. v ≡ meaning (scope_in scope.now) (tree_of e.now)) }
+    ensures next { OnOk result (laid.new.next ≡ laid.old.next + length (patterns_of (tree_of e.now))) }
+    ensures same { laid.new.patterns.items ≡ laid.old.patterns.items }
+    ensures kept { OnOk result (stack.new.items ≡ stack.old.items) }
+{
+    match e {
+        Expr::Text(text) => Ok(Value::of_text(text.as_str())),
+        Expr::Whole(number) => Ok(whole_of(number)),
+        Expr::Bool(holds) => Ok(Value::of_truth(*holds)),
+        Expr::Field(name) => Ok(Value::of_field(scope.fields.get(name.as_str()))),
+        Expr::Var(name) => Ok(variable_in(name.as_str(), scope.variables)),
+        Expr::Unary(sign, operand) => {
+            let operand = value_of(alloc, scope, operand, laid, stack)?;
+            Ok(prefixed(*sign, &operand))
+        }
+        Expr::Binary(sign, first, second) => {
+            let first = value_of(alloc, scope, first, laid, stack)?;
+            let second = value_of(alloc, scope, second, laid, stack)?;
+            Ok(infixed(*sign, &first, &second))
+        }
+        Expr::Call(call) => value_of_call(alloc, scope, call, laid, stack),
+    }
+}
+
+/// The same, with a stack of its own.
+pub fn meaning_of<'a>(
     alloc: Global,
     scope: &Scope<'a>,
     e: &'a Expr,
@@ -37,23 +73,8 @@ pub fn value_of<'a>(
     ensures next { OnOk result (laid.new.next ≡ laid.old.next + length (patterns_of (tree_of e.now))) }
     ensures same { laid.new.patterns.items ≡ laid.old.patterns.items }
 {
-    match e {
-        Expr::Text(text) => Ok(Value::of_text(text.as_str())),
-        Expr::Whole(number) => Ok(whole_of(number)),
-        Expr::Bool(holds) => Ok(Value::of_truth(*holds)),
-        Expr::Field(name) => Ok(Value::of_field(scope.fields.get(name.as_str()))),
-        Expr::Var(name) => Ok(variable_in(name.as_str(), scope.variables)),
-        Expr::Unary(sign, operand) => {
-            let operand = value_of(alloc, scope, operand, laid)?;
-            Ok(prefixed(*sign, &operand))
-        }
-        Expr::Binary(sign, first, second) => {
-            let first = value_of(alloc, scope, first, laid)?;
-            let second = value_of(alloc, scope, second, laid)?;
-            Ok(infixed(*sign, &first, &second))
-        }
-        Expr::Call(call) => value_of_call(alloc, scope, call, laid),
-    }
+    let mut stack = Vec::new(alloc);
+    value_of(alloc, scope, e, laid, &mut stack)
 }
 
 #[cycle(walk)]
@@ -62,40 +83,47 @@ fn value_of_call<'a>(
     scope: &Scope<'a>,
     call: &'a Call,
     laid: &mut Row,
+    stack: &mut Vec<Value<'a>>,
 ) -> Result<Value<'a>, AllocError>
     requires lawful { HasPatterns (call_tree (call_of call.now)) }
     requires patterns { StandAt laid.old.next (patterns_of (call_tree (call_of call.now))) laid.old.patterns.items }
     ensures value { IfOk result (λ v. v ≡ meaning (scope_in scope.now) (call_tree (call_of call.now))) }
     ensures next { OnOk result (laid.new.next ≡ laid.old.next + length (patterns_of (call_tree (call_of call.now)))) }
     ensures same { laid.new.patterns.items ≡ laid.old.patterns.items }
+    ensures kept { OnOk result (stack.new.items ≡ stack.old.items) }
 {
-    let given = values_of(alloc, scope, &call.arguments, laid)?;
+    let from = stack.len();
+    push_values(alloc, scope, &call.arguments, laid, stack)?;
     let Some(function) = Function::named(call.name.as_str()) else {
+        stack.truncate(from);
         return Ok(Value::missing());
     };
-    let values = values_for(alloc, function.parameters(), &call.arguments, &given)?;
-    computed(alloc, scope, function, &values, laid)
+    fit(alloc, function.parameters(), &call.arguments, from, stack)?;
+    let value = computed(alloc, scope, function, &stack[from..], laid)?;
+    stack.truncate(from);
+    Ok(value)
 }
 
-/// The values of the arguments of a call, in the order of the text.
+/// Puts the values of the arguments of a call on the stack, in the order of the text.
 #[cycle(walk)]
-pub fn values_of<'a>(
+pub fn push_values<'a>(
     alloc: Global,
     scope: &Scope<'a>,
     arguments: &'a [(Option<Text>, Expr)],
     laid: &mut Row,
-) -> Result<Vec<Value<'a>>, AllocError>
+    stack: &mut Vec<Value<'a>>,
+) -> Result<(), AllocError>
     requires lawful { HavePatterns (row (args_view arguments.now)) }
     requires patterns { StandAt laid.old.next (patterns_in (row (args_view arguments.now))) laid.old.patterns.items }
-    ensures values { IfOk result (λ vs. vs.items ≡ meanings (scope_in scope.now) (row (args_view arguments.now))) }
+    ensures values { OnOk result (stack.new.items ≡ stack.old.items ++ meanings (scope_in scope.now) (row (args_view arguments.now))) }
     ensures next { OnOk result (laid.new.next ≡ laid.old.next + length (patterns_in (row (args_view arguments.now)))) }
     ensures same { laid.new.patterns.items ≡ laid.old.patterns.items }
 {
-    let mut values = Vec::with_capacity(alloc, arguments.len())?;
     for (_, argument) in arguments {
-        values.push(value_of(alloc, scope, argument, laid)?)?;
+        let value = value_of(alloc, scope, argument, laid, stack)?;
+        stack.push(value)?;
     }
-    Ok(values)
+    Ok(())
 }
 
 /// What a function gives of the values of its parameters, with the row's next pattern where it takes one.

@@ -8,6 +8,7 @@ ghost use Rattle.gl_text.specs.Texts.{contains, begins_with, ends_with};
 ghost use Rattle.gl_functions.specs.Calls.{looks_for};
 
 use crate::arguments::{text_at, truth_at};
+use crate::searching;
 use crate::value::Value;
 use gl_fields::FieldMap;
 use gl_text::{law_ids_read_back, read_id};
@@ -24,7 +25,7 @@ pub fn contains<'a>(alloc: Global, arguments: &[Value<'_>]) -> Result<Value<'a>,
             Err(error) => Err(error),
         }
     } else {
-        Ok(Value::of_truth(gl_text::contains(text, part)))
+        Ok(Value::of_truth(searching::contains(text, part)))
     }
 }
 

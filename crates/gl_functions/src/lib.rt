@@ -21,6 +21,7 @@ mod giving;
 mod making;
 mod matching;
 mod naming;
+mod searching;
 mod signs;
 mod value;
 mod world;

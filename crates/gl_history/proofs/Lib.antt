@@ -5,3 +5,4 @@ pub mod Listing
 pub mod Causing
 pub mod Staying
 pub mod Beginning
+pub mod Coming

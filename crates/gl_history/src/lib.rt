@@ -7,9 +7,11 @@
 
 mod history;
 mod laws;
+mod same;
 
 pub use history::History;
 pub use laws::{
     law_configurations_are_lawful, law_messages_change_no_version, law_settings_stay,
     law_stream_ids_are_few, law_versions_are_counted, law_versions_stay,
 };
+pub use same::same_configs;

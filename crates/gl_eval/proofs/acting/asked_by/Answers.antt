@@ -1,4 +1,4 @@
-use Rattle.std.proofs.Common.{rules, ◌≡◌, ◌+◌, map, ℕ, List, sym, ap, ◌∙◌}
+use Rattle.std.proofs.Common.{rules, ◌≡◌, ◌+◌, map, ℕ, List, [], refl, sym, ap, ◌∙◌}
 use Rattle.std.specs.Prelude.{Some}
 use Rattle.std.proofs.lemmas.Result.{IfOk-weaker}
 use Rattle.gl_rulelang.specs.Tree.{call_of, args_view, row, Arguments}
@@ -8,7 +8,8 @@ use Rattle.gl_functions.specs.Worlds.{known_of}
 use Rattle.gl_eval.specs.declared.staged.Staged.{Staged}
 use Rattle.gl_eval.specs.Changes.{changed}
 use Rattle.gl_eval.specs.Scopes.{scope_in}
-use Rattle.gl_eval.proofs.Called.{AreFor, passed_are_for}
+use Rattle.gl_eval.proofs.Called.{AreFor}
+use Rattle.gl_eval.proofs.Fitting.{fitted_are_for}
 use Rattle.gl_eval.proofs.Asked.{asked_does}
 use Rattle.gl_eval.proofs.acting.asked_by.Goals as goal
 
@@ -21,7 +22,7 @@ returns-clause-value c =
     let named : function_named (call_of c.args.call.now).0 ≡ Some c.in-Some.function = ap function_named (sym name) ∙ sym c.named.ensures ∙ c.in-Some.is in
     let one : row (args_view c.deref.result.now) ≡ (call_of c.args.call.now).1 = search (rules, the_lemmas) in
     let two : row (args_view c.deref-2.result.now) ≡ (call_of c.args.call.now).1 = search (rules, the_lemmas) in
-    let are : AreFor (scope_in c.args.scope.now) (call_of c.args.call.now).1 c.in-Some.function c.deref-4.result.now =
-    passed_are_for s call.1 f c.deref.result.now c.deref-2.result.now c.in_ok-given.given.items c.deref-3.result.now c.in_ok-values.values.items c.deref-4.result.now
-    (map asked c.parameters.result.now) one two c.parameters.ensures c.in_ok-given.ensures.values c.deref-3.ensures.value c.in_ok-values.ensures c.deref-4.ensures.value in
-    IfOk-weaker c.asked.result _ _ (λ change h. λ m. asked_does s (known_of c.args.scope.now.world.now) call f c.deref-4.result.now m (changed change m) named are (h m)) c.asked.ensures
+    let are : AreFor (scope_in c.args.scope.now) (call_of c.args.call.now).1 c.in-Some.function c.as_slice.result.now =
+    fitted_are_for s call.1 f c.deref.result.now c.deref-2.result.now c.new-stack.result.items c.push_values.new.stack.items c.fit.new.stack.items c.as_slice.result.now 0
+    (map asked c.parameters.result.now) one two c.parameters.ensures (search rules) c.in_ok-push_values.ensures.values c.in_ok-fit.ensures c.as_slice.ensures.value in
+    IfOk-weaker c.asked.result _ _ (λ change h. λ m. asked_does s (known_of c.args.scope.now.world.now) call f c.as_slice.result.now m (changed change m) named are (h m)) c.asked.ensures
